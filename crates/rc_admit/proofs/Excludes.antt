@@ -1,13 +1,13 @@
 -- A world of which those facts are true has no fault.
 use Rattle.std.proofs.Common.{◌≡◌, ℕ, ◌+◌, ◌<◌, ◌≤◌, Bool, true, false, ◌&&◌, ◌||◌, List, ◌∷◌, length, drop, Option, Some, None, refl, sym, ap, ◌∙◌, subst, inl, inr, arith, []}
 use Rattle.std.proofs.lemmas.Option.{slice_get_within}
-use Rattle.std.proofs.lemmas.Bool.{and_from, and_parts, and_right, eq-eqb, eqb-true, false_from_ne_true, leb-true, lt-leb, ltb-true, not_from_true, or_cases, or_from}
+use Rattle.std.proofs.lemmas.Bool.{and_parts, and_right, eq-eqb, eqb-true, false_from_ne_true, leb-true, lt-leb, ltb-true, not_from_true, or_cases, or_from}
 use Rattle.std.proofs.lemmas.List.{length-map}
 use Rattle.std.specs.List.{list_any}
 use Rattle.std.specs.Prelude.{is_some, nat_eq, nat_le, not, slice_get, ℤ, if◌then◌else◌}
 use Rattle.rc_lang.specs.declared.lines.Line.{Line}
 use Rattle.rc_lang.specs.declared.lines.Op.{Op}
-use Rattle.rc_lang.specs.declared.lines.Op.TheVariants.{Load, Store, GetSqe, PrepRead, PrepWrite, PrepFsync, PrepNop, PrepOther, SetData64, Submit, SubmitAndWait, CqeSeen}
+use Rattle.rc_lang.specs.declared.lines.Op.TheVariants.{Load, Store, GetSqe, PrepRead, PrepWrite, PrepFsync, PrepNop, PrepOther, SetData64, Submit, SubmitAndWait, CqeGetData64, CqeSeen}
 use Rattle.rc_lang.specs.declared.lines.Stmt.{Stmt}
 use Rattle.rc_lang.specs.declared.lines.Stmt.TheVariants.{Do, Put, EndLock, If, Peek, Break}
 use Rattle.rc_lang.specs.declared.lines.Test.TheVariants.{ReadyZero, SpaceAtLeast, Take}
@@ -15,29 +15,34 @@ use Rattle.rc_lang.specs.declared.request.Request.{Request}
 use Rattle.rc_lang.specs.Program.{IsProgram, IsResolved, Items, Program, bytes_at, items_at, lists_of, shares_at}
 use Rattle.rc_rules.specs.declared.mode.Mode.{Mode}
 use Rattle.rc_rules.specs.declared.mode.Peeked.{Peeked}
-use Rattle.rc_rules.specs.declared.mode.Peeked.TheVariants.{Unseen, Sees, SeesOther}
+use Rattle.rc_rules.specs.declared.mode.Peeked.TheVariants.{Unseen, Sees, SeesOther, Got}
 use Rattle.rc_rules.specs.declared.mode.Slot.TheVariants.{Closed, Vacant}
 use Rattle.rc_rules.specs.declared.mode.Submitting.{Submitting}
+use Rattle.rc_rules.specs.Kinds.{kinds_of}
 use Rattle.rc_rules.specs.Premises.{Meets}
 use Rattle.rc_rules.specs.Needs.{line_premises}
-use Rattle.rc_rules.specs.Rules.{is_seen, kind_of, limit, leave_needs, premises_of, release_needs, same_slot, sq_of}
+use Rattle.rc_rules.specs.Rules.{is_seen, limit, same_slot}
 use Rattle.rc_rules.proofs.Weaker.{same_slot_is}
 use Rattle.rc_split.specs.Bags.{Part, ShareOf, TokenOf, Credit, bag_of}
 use Rattle.rc_split.specs.Pools.{all_pooled, overfills}
+use Rattle.rc_world.specs.declared.controls.Look.{Look}
+use Rattle.rc_world.specs.declared.controls.Look.TheVariants as looks
 use Rattle.rc_world.specs.declared.event.Completion.{Completion}
 use Rattle.rc_world.specs.declared.fault.FaultKind.{FaultKind}
 use Rattle.rc_world.specs.declared.fault.FaultKind.TheVariants.{WriteOfPending, ReadOfFilling, KernelClash, ThreadRace, RingFull, Overflow, AmbiguousData, UnknownReap, NoLock, RawEntry, OutOfBuffer, DoublePut}
 use Rattle.rc_world.specs.Controls.{Standing, next_line}
-use Rattle.rc_world.specs.Faults.{Access, access_at, access_of, clashes, conflicts, count_of, fault_of, front_is_one, has_cq, has_data, has_fault, has_sq, is_closed, is_cq_call, is_filling, is_full_at, is_in_flight, is_named, is_ambiguous_at, is_double_at, is_out_at, is_prepared, is_raw_at, is_sq_call, is_sq_op, is_unknown_at, lacks_lock, is_vacant, may_put, names, op_is_out, op_is_raw, overflows, races_from, reads_filling, reads_into, writes_pending}
+use Rattle.rc_world.specs.Faults.{Access, access_at, access_of, clashes, conflicts, count_of, fault_of, front_is_known, front_is_one, has_cq, has_data, has_fault, has_sq, is_closed, is_cq_call, is_filling, is_full_at, is_in_flight, is_named, is_ambiguous_at, is_double_at, is_out_at, is_prepared, is_raw_at, is_sq_call, is_sq_op, is_unknown_at, lacks_lock, is_vacant, may_put, names, op_is_out, op_is_raw, overflows, races_from, reads_filling, reads_into, writes_pending}
 use Rattle.rc_world.specs.Machine.{Pending, World, is_read, slot_len, used_entries}
 use Rattle.rc_world.proofs.Lists.{found}
-use Rattle.rc_admit.proofs.Flight.{data_in, front_is}
+use Rattle.rc_admit.specs.Worlds.{unreaped}
+use Rattle.rc_admit.proofs.Flight.{all_unreaped, data_in, front_is, is_reaped}
+use Rattle.rc_admit.proofs.RequestKinds.{HasKind, owns, prepared_as}
 use Rattle.rc_admit.proofs.Lists.{sum_over, sum_over_one, Each-get}
 use Rattle.rc_admit.proofs.Moves.{cq_has, sq_has}
 use Rattle.rc_admit.proofs.Ops.{slot_closed, slot_vacant, slot_prepared}
-use Rattle.rc_admit.proofs.Owned.{Stand, EdgeAt, HasEdge, owns, owns_pending, unheld, SlotFits, StartsWith, IsNonempty, FrontFits, HasKind, HasKindPending, Owned, WellOwned, bound_one, bound_two, bound_unheld}
+use Rattle.rc_admit.proofs.Owned.{Stand, EdgeAt, HasEdge, owns_pending, place_bag, unheld, SlotFits, StartsWith, IsNonempty, FrontFits, HasKindPending, Owned, WellOwned, bound_one, bound_two, bound_unheld}
 use Rattle.rc_admit.proofs.Pool.{room_in_pools}
-use Rattle.rc_admit.proofs.Rule.{asks_lock, called, has_both, held_of, known_sq, met, prepared_as, put_covered}
+use Rattle.rc_admit.proofs.Rule.{CanLeave, asks_lock, brace_leaves, break_leaves, called, has_both, held_of, known_sq, met, put_covered}
 use Rattle.rc_admit.proofs.Shares.{data_owned, data_pending, fills_all, names_one, no_clash}
 use Rattle.rc_admit.proofs.Tokens.{count_most, credits_owned, entry_free, token_owned}
 use Rattle.rc_world.proofs.LawFaultless.{without_fault}
@@ -48,6 +53,13 @@ use Rattle.rc_admit.proofs.Accesses.{Next, all_by, next_is, one_by, resolved_at}
 none_lacking : (c h : Bool) → (c ≡ true → h ≡ true) → (c && not h) ≡ false
 none_lacking false h f = refl
 none_lacking true h f = ap not (f refl)
+
+-- A completion whose request was reaped owns a credit, too.
+places_owned : (look : Look) (cs : List Completion) → length cs ≤ length (unreaped look cs) + place_bag look Credit
+places_owned looks.Unseen cs = omega arith
+places_owned looks.Peeked cs = omega arith
+places_owned looks.Got [] = omega arith
+places_owned looks.Got (c ∷ cs) = omega arith
 
 -- ---- the faults, each alone
 
@@ -78,7 +90,7 @@ module _ (w : World) (made : IsProgram w.program) (S : Stand) (edge : HasEdge w.
   sq_at : (i : ℕ) (s : Submitting) → (modes i).sq ≡ Some s → (has_sq w i ≡ true) × (length w.queued + slot_len w.slot ≤ s.queued) × SlotFits w.slot s.slot
   sq_at i s e = sq_has P S w bags modes i o s e
 
-  cq_at : (i : ℕ) (k : Peeked) → (modes i).cq ≡ Some k → (has_cq w i ≡ true) × FrontFits w.controls.peeked w.completions k
+  cq_at : (i : ℕ) (k : Peeked) → (modes i).cq ≡ Some k → (has_cq w i ≡ true) × FrontFits w.controls.look w.completions k
   cq_at i k e = cq_has P S w bags modes i o k e
 
   -- ---- buffers
@@ -178,7 +190,7 @@ module _ (w : World) (made : IsProgram w.program) (S : Stand) (edge : HasEdge w.
   is_not_raw i PrepOther h = let x = called (modes i).sq _ h in wants_vacant i x.known x.is (x.asked 5)
   is_not_raw i (SetData64 u) h =
       let x = called (modes i).sq _ h in
-      let k = prepared_as (kind_of P u) x.known.slot (x.asked 6) in
+      let k = prepared_as (kinds_of P u) x.known.slot (x.asked 6) in
       let f = slot_prepared w.slot k.0 (subst (λ y. SlotFits w.slot y) k.2 (sq_at i x.known x.is).2) in
       ap (λ y. not (is_prepared y)) f.1
   is_not_raw i (Submit y) h = let x = called (modes i).sq _ h in wants_closed i x.known x.is (x.asked 4)
@@ -186,23 +198,16 @@ module _ (w : World) (made : IsProgram w.program) (S : Stand) (edge : HasEdge w.
   is_not_raw i _ h = refl
 
   -- what releases the lock of the submission side
-  closed_behind : (i : ℕ) → is_some (modes i).sq ≡ true → same_slot (sq_of (modes i)).slot Closed ≡ true → not (is_closed w.slot) ≡ false
-  closed_behind i l h =
-      let s = held_of (modes i).sq l in
-      wants_closed i s.0 s.1 (subst (λ (x : Submitting). same_slot x.slot Closed ≡ true) (known_sq (modes i) s.0 s.1) h)
-
-  released_closed : (i : ℕ) (b : Bool) → (b ≡ true → is_some (modes i).sq ≡ true) → Meets (premises_of P [] true (bags i) (modes i) (release_needs b)) → (b && not (is_closed w.slot)) ≡ false
-  released_closed i true l h = closed_behind i (l refl) h.0
-  released_closed i false l h = refl
-
-  broken_closed : (i : ℕ) (b : Bool) → (b ≡ true → is_some (modes i).sq ≡ true) → Meets (premises_of P [] true (bags i) (modes i) (leave_needs b)) → (b && not (is_closed w.slot)) ≡ false
-  broken_closed i true l h = closed_behind i (l refl) h.0
-  broken_closed i false l h = refl
+  closed_behind : (i : ℕ) (b : Bool) → (b ≡ true → is_some (modes i).sq ≡ true) → (b ≡ true → CanLeave P (modes i)) → (b && not (is_closed w.slot)) ≡ false
+  closed_behind i true l h =
+      let s = held_of (modes i).sq (l refl) in
+      wants_closed i s.0 s.1 (subst (λ (x : Submitting). same_slot x.slot Closed ≡ true) (known_sq (modes i) s.0 s.1) (h refl).closed)
+  closed_behind i false l h = refl
 
   no_raw_entry : (i : ℕ) (s : Stmt) (vars : List ℤ) (k : ℕ) → EdgeAt P S i (bags i) (modes i) vars k (Some s) → is_raw_at w.slot s ≡ false
   no_raw_entry i (Do op) vars k h = is_not_raw i op h.0
-  no_raw_entry i (EndLock p l) vars k h = released_closed i l.sq h.0.sq h.1
-  no_raw_entry i (Break p releases leaves) vars k h = broken_closed i releases.sq h.0.sq h.2
+  no_raw_entry i (EndLock p l) vars k h = closed_behind i l.sq h.0.sq (brace_leaves P (bags i) (modes i) l.sq l.cq h.1)
+  no_raw_entry i (Break p releases leaves) vars k h = closed_behind i releases.sq h.0.sq (break_leaves P (bags i) (modes i) releases.sq h.2)
   no_raw_entry i _ vars k h = refl
 
   knows_sq : (i : ℕ) → is_some (modes i).sq ≡ true → has_sq w i ≡ true
@@ -233,6 +238,7 @@ module _ (w : World) (made : IsProgram w.program) (S : Stand) (edge : HasEdge w.
   sq_locked i _ vars k h r = absurd (cc)
 
   cq_locked : (i : ℕ) (s : Stmt) (vars : List ℤ) (k : ℕ) → EdgeAt P S i (bags i) (modes i) vars k (Some s) → is_cq_call s ≡ true → has_cq w i ≡ true
+  cq_locked i (Do CqeGetData64) vars k h r = knows_cq i (asks_lock (modes i).cq _ h.0)
   cq_locked i (Do CqeSeen) vars k h r = knows_cq i (asks_lock (modes i).cq _ h.0)
   cq_locked i (Do _) vars k h r = absurd (cc)
   cq_locked i (Peek x) vars k h r = knows_cq i (asks_lock (modes i).cq _ h.0)
@@ -261,7 +267,8 @@ module _ (w : World) (made : IsProgram w.program) (S : Stand) (edge : HasEdge w.
   no_overflow (p ∷ ps) e =
       let x : sum_over (owns_pending P Credit) w.pending ≡ owns P Credit p.request + sum_over (owns_pending P Credit) ps = ap (sum_over (owns_pending P Credit)) e in
       let y : length w.completed ≤ sum_over (owns P Credit) w.completed = credits_owned P w.completed in
-      let z : length w.completions ≡ length w.completed = sym (length-map w.completions (λ (c : Completion). c.user_data)) ∙ (ap length (sym o.agree) ∙ length-map w.completed (λ (r : Request). r.user_data)) in
+      let z : length (unreaped w.controls.look w.completions) ≡ length w.completed = sym (length-map (unreaped w.controls.look w.completions) (λ (c : Completion). c.user_data)) ∙ (ap length (sym o.agree) ∙ length-map w.completed (λ (r : Request). r.user_data)) in
+      let more : length w.completions ≤ length (unreaped w.controls.look w.completions) + place_bag w.controls.look Credit = places_owned w.controls.look w.completions in
       let t : unheld P w Credit ≤ P.completion_entries = flight_most Credit in
       lt-leb P.completion_entries (length w.completions) (omega arith)
 
@@ -281,13 +288,13 @@ module _ (w : World) (made : IsProgram w.program) (S : Stand) (edge : HasEdge w.
   no_ambiguous_data i (Do _) vars k lt h = refl
   no_ambiguous_data i _ vars k lt h = refl
 
-  -- A completion at the front is that of one request.
-  front_one : (cs : List Completion) → w.completions ≡ cs → IsNonempty cs → front_is_one w cs ≡ true
-  front_one [] e n = absurd n
-  front_one (d ∷ ds) e n =
+  -- A completion at the front that isn't got is that of one request.
+  front_one : is_reaped w.controls.look ≡ false → (cs : List Completion) → w.completions ≡ cs → IsNonempty cs → front_is_one w cs ≡ true
+  front_one m [] e n = absurd n
+  front_one m (d ∷ ds) e n =
       let u : ℕ = d.user_data in
       let p : Part = TokenOf u in
-      let f = front_is w.completed d ds (o.agree ∙ ap data_in e) in
+      let f = front_is w.completed d ds (o.agree ∙ ap data_in (all_unreaped w.controls.look w.completions m ∙ e)) in
       let fl : sum_over (owns P p) w.completed ≡ owns P p f.request + sum_over (owns P p) f.others = ap (sum_over (owns P p)) f.is in
       let one : 1 ≤ owns P p f.request = token_owned P f.request u f.same in
       let tot : unheld P w p ≤ 1 = flight_most p in
@@ -296,20 +303,28 @@ module _ (w : World) (made : IsProgram w.program) (S : Stand) (edge : HasEdge w.
       let all : count_of u w.completed ≡ count_of u (f.request ∷ f.others) = ap (count_of u) f.is in
       eq-eqb (count_of u w.completed) 1 (omega arith)
 
-  front_fits : (x : Peeked) → is_seen x ≡ true → FrontFits w.controls.peeked w.completions x → (w.controls.peeked ≡ true) × IsNonempty w.completions
-  front_fits Unseen h f = absurd (cc)
-  front_fits (Sees u) h f = (f.0, some w.completions f.1)
+  -- What the label says that is peeked is known.
+  front_known : (x : Peeked) → is_seen x ≡ true → FrontFits w.controls.look w.completions x → front_is_known w w.controls.look w.completions ≡ true
+  front_known Unseen h f = absurd (cc)
+  front_known (Sees u) h f = subst (λ l. front_is_known w l w.completions ≡ true) (sym f.0) (front_one (ap is_reaped f.0) w.completions refl (some w.completions f.1))
     where
       some : (cs : List Completion) → StartsWith u cs → IsNonempty cs
       some [] h = h
       some (c ∷ cs) h = tt
-  front_fits SeesOther h f = f
+  front_known SeesOther h f = subst (λ l. front_is_known w l w.completions ≡ true) (sym f.0) (front_one (ap is_reaped f.0) w.completions refl f.1)
+  front_known Got h f = subst (λ l. front_is_known w l w.completions ≡ true) (sym f.0) (there w.completions f.1)
+    where
+      there : (cs : List Completion) → IsNonempty cs → front_is_known w looks.Got cs ≡ true
+      there [] h = absurd h
+      there (c ∷ cs) h = refl
+
+  -- a call that wants it so
+  wants_known : (i : ℕ) (s : Peeked) → (modes i).cq ≡ Some s → is_seen s ≡ true → not (front_is_known w w.controls.look w.completions) ≡ false
+  wants_known i s e h = not_from_true (front_is_known w w.controls.look w.completions) (front_known s h (cq_at i s e).1)
 
   no_unknown_reap : (i : ℕ) (s : Stmt) (vars : List ℤ) (k : ℕ) → EdgeAt P S i (bags i) (modes i) vars k (Some s) → is_unknown_at w s ≡ false
-  no_unknown_reap i (Do CqeSeen) vars k h =
-      let s = called (modes i).cq _ h.0 in
-      let f = front_fits s.known (s.asked 11) (cq_at i s.known s.is).1 in
-      not_from_true (w.controls.peeked && front_is_one w w.completions) (and_from w.controls.peeked (front_is_one w w.completions) f.0 (front_one w.completions refl f.1))
+  no_unknown_reap i (Do CqeGetData64) vars k h = let s = called (modes i).cq _ h.0 in wants_known i s.known s.is (s.asked 11)
+  no_unknown_reap i (Do CqeSeen) vars k h = let s = called (modes i).cq _ h.0 in wants_known i s.known s.is (s.asked 11)
   no_unknown_reap i (Do _) vars k h = refl
   no_unknown_reap i _ vars k h = refl
 

@@ -1,6 +1,6 @@
 -- A labelling that obeys the rules gives the edge law: a claim of how each thread of an accepted program may stand.
 use Rattle.std.proofs.Common.{◌≡◌, ℕ, ◌+◌, ◌<◌, ◌≤◌, Bool, true, false, cond, List, ◌∷◌, ◌++◌, take, Option, Some, refl, sym, ap, ◌∙◌, subst, ◌⊎◌, inl, inr, arith, []}
-use Rattle.std.specs.Prelude.{nat_lt, slice_get, slice_set, ℤ}
+use Rattle.std.specs.Prelude.{nat_lt, not, slice_get, slice_set, ℤ}
 use Rattle.std.proofs.lemmas.Bool.{ltb-true, or_left, or_right}
 use Rattle.std.proofs.lemmas.List.{get_or-take}
 use Rattle.rc_lang.specs.declared.lines.Block.{Block}
@@ -28,9 +28,9 @@ use Rattle.rc_rules.specs.Labels.{Label, Dead, Live, Weaker, WeakerThanEach}
 use Rattle.rc_rules.specs.Labellings.{IsGood, IsGoodAt, here, label_at, skipped}
 use Rattle.rc_rules.specs.declared.flag.Write.TheVariants.{Anything}
 use Rattle.rc_rules.specs.Sides.{Sides, brings, forgets, may_skip, on, test_goes, turns, unreached, write_of, write_to}
-use Rattle.rc_rules.specs.Premises.{Meets, Premise}
+use Rattle.rc_rules.specs.Premises.{Is, Meets, Premise}
 use Rattle.rc_rules.specs.Needs.{line_premises}
-use Rattle.rc_rules.specs.Rules.{asks, asks_both, broken, case_at, freed, goes, locked, locks_of, op_effect, peek_at, premises_of, put_effect, stmt_needs, test_effect, top_mode, with_lock, with_peeked}
+use Rattle.rc_rules.specs.Rules.{asks, asks_both, broken, case_at, freed, goes, is_got, locked, locks_of, op_effect, peek_at, premises_of, put_effect, stmt_needs, test_effect, top_mode, with_lock, with_peeked}
 use Rattle.rc_rules.proofs.Rising.{leave_same, op_same, put_asked, release_asked, test_same}
 use Rattle.rc_rules.proofs.Weaker.{freed_locks, locked_locks, locks_same, peeked_grows, peeked_locks, weaker_trans}
 use Rattle.rc_split.specs.Bags.{Part, TokenOf, bag_of, bag_on, minus}
@@ -305,7 +305,10 @@ module _ (P : Program) (wf : IsProgram P) (i : ℕ) (thread : Thread) (labels : 
     peek_inside : (o x : ℕ) → stmt_at lines o ≡ Some (Peek x) → Entered flag lines labels o → (locks_in (blocks_at lines o)).cq ≡ true
     peek_inside o x e h =
         let z : Bool = side_of flag h.variables in
-        sym (ap (λ (l : Locks). l.cq) h.locked) ∙ asks_lock h.mode.cq _ (subst (λ s. Meets (asks s (λ bag n. with_lock 1 n.cq (λ p. [])))) (here_is o z (Peek x) e ∙ h.label) (meets_side (λ y. asks (here (take o lines) (take (o + 1) labels) y) (λ bag n. with_lock 1 n.cq (λ p. []))) z (good_at o (Peek x) e).meets))
+        sym (ap (λ (l : Locks). l.cq) h.locked) ∙ asks_lock h.mode.cq _ (subst (λ s. Meets (asks s asked_there)) (here_is o z (Peek x) e ∙ h.label) (meets_side (λ y. asks (here (take o lines) (take (o + 1) labels) y) asked_there) z (good_at o (Peek x) e).meets))
+      where
+        asked_there : (Part → ℕ) → Mode → List (ℕ × Premise)
+        asked_there bag n = with_lock 1 n.cq (λ p. (20, Is (not (is_got p))) ∷ [])
 
     arm_edge : (o : ℕ) → stmt_at lines k ≡ Some (EndArm o) → EdgeAt P (Labelled P) i b m vars k (Some (EndArm o))
     arm_edge o e =
@@ -316,7 +319,7 @@ module _ (P : Program) (wf : IsProgram P) (i : ℕ) (thread : Thread) (labels : 
         let inside : (locks_in (blocks_at lines o)).cq ≡ true = peek_inside o c.variable c.stands (opener (blocks_at lines o) (InPeek o) (InArm o ∷ []) c.within) in
         let here_inside : (locks_in (blocks_at lines k)).cq ≡ true = ap (λ x. (locks_in x).cq) c.within ∙ cq_inside (blocks_at lines o) (InPeek o ∷ InArm o ∷ []) inside in
         let w = arm_in side (take (end_at P i o) lines) (take (end_at P i o + 1) labels) (label_at labels (end_at P i o + 1) side) k o l.0 (get_take (end_at P i o) k lines l.0 lt l.1) l.2 ((good_at (end_at P i o) (EndPeek o) h.stands).after side) in
-        (ap (λ (l : Locks). l.cq) a.locked ∙ here_inside, out_same b (with_peeked Unseen m) (end_at P i o + 1) (blocks_at lines o) (InPeek o ∷ InArm o ∷ []) c.within h.lands.blocks refl (peeked_locks Unseen m) (subst (λ s. Weaker (label_at labels (end_at P i o + 1) side) (peek_at Unseen s)) (known_at (end_at P i o) (omega arith)) w))
+        (ap (λ (l : Locks). l.cq) a.locked ∙ here_inside, asked (EndArm o) (λ z bag n. premises_of P thread.lists z bag n (stmt_needs (EndArm o))) e (good_at k (EndArm o) e).meets, out_same b (with_peeked Unseen m) (end_at P i o + 1) (blocks_at lines o) (InPeek o ∷ InArm o ∷ []) c.within h.lands.blocks refl (peeked_locks Unseen m) (subst (λ s. Weaker (label_at labels (end_at P i o + 1) side) (peek_at Unseen s)) (known_at (end_at P i o) (omega arith)) w))
 
     loop_edge : (n : ℕ) → stmt_at lines k ≡ Some (Loop n) → EdgeAt P (Labelled P) i b m vars k (Some (Loop n))
     loop_edge n e =

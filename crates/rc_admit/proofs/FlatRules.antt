@@ -1,6 +1,6 @@
 -- What passes from a label to a weaker one, and through the rules of lines.
 use Rattle.std.proofs.Common.{◌≡◌, ℕ, Bool, true, false, ◌&&◌, cond, List, [], ◌∷◌, Option, Some, None, refl, sym, ap, ◌∙◌}
-use Rattle.std.specs.Prelude.{is_some, nat_le, option_map, unwrap_or}
+use Rattle.std.specs.Prelude.{is_some, nat_le, not, option_map, unwrap_or}
 use Rattle.std.proofs.lemmas.Bool.{and_parts, leb-true}
 use Rattle.rc_lang.specs.declared.lines.Locks.{Locks}
 use Rattle.rc_lang.specs.declared.lines.Op.{Op}
@@ -13,7 +13,7 @@ use Rattle.rc_rules.specs.declared.mode.Slot.TheVariants.{Closed}
 use Rattle.rc_rules.specs.declared.mode.Submitting.{Submitting}
 use Rattle.rc_rules.specs.Labels.{Label, Dead, Live, UnderLock, Weaker, WeakerMode, WeakerSubmitting}
 use Rattle.rc_rules.specs.Premises.{Is, Covers, Meets}
-use Rattle.rc_rules.specs.Rules.{can_take, keeps_queue, locks_of, op_effect, queue_on, same_slot, test_effect, test_mode, top_mode, top_sq}
+use Rattle.rc_rules.specs.Rules.{can_take, is_got, keeps_queue, locks_of, op_effect, peeked_of, queue_on, same_slot, test_effect, test_mode, top_mode, top_sq}
 use Rattle.rc_rules.proofs.Lines.{effect_by}
 use Rattle.rc_rules.proofs.Weaker.{same_slot_is, test_locks}
 use Rattle.rc_split.specs.Bags.{Part, IsWithin, bag_of, bag_on, plus}
@@ -65,11 +65,11 @@ top_below : (P : Program) (items : Items) (o : Option Submitting) → (same_slot
 top_below P items None e = tt
 top_below P items (Some s) e = let h = and_parts (same_slot s.slot Closed) (nat_le s.queued (queue_on P items)) e in record { queued = leb-true _ _ h.1; slot = sym (same_slot_is s.slot Closed h.0) }
 
-queue_less : (P : Program) (items : Items) (m : Mode) → keeps_queue (queue_on P items) m ≡ true → WeakerMode (top_mode P items m) m
-queue_less P items m e = (top_below P items m.sq e, front_below m.cq)
+queue_less : (P : Program) (items : Items) (m : Mode) → keeps_queue (queue_on P items) m ≡ true → not (is_got (peeked_of m)) ≡ true → WeakerMode (top_mode P items m) m
+queue_less P items m e n = (top_below P items m.sq e, front_below m.cq n)
 
-pub covered : (P : Program) (v : ℕ) (items : Items) (z : Bool) (b : Part → ℕ) (m : Mode) → Meets ((v, Is (keeps_queue (queue_on P items) m)) ∷ (v, Covers b (bag_on z items)) ∷ []) → Weaker (Live (bag_on z items) (top_mode P items m)) (Live b m)
-covered P v items z b m h = (h.1.0, queue_less P items m h.0)
+pub covered : (P : Program) (v : ℕ) (items : Items) (z : Bool) (b : Part → ℕ) (m : Mode) → Meets ((v, Is (keeps_queue (queue_on P items) m)) ∷ (v, Covers b (bag_on z items)) ∷ (20, Is (not (is_got (peeked_of m)))) ∷ []) → Weaker (Live (bag_on z items) (top_mode P items m)) (Live b m)
+covered P v items z b m h = (h.1.0, queue_less P items m h.0 h.1.1.0)
 
 const_same : {A : Type 0} (a : A) (o p : Option A) → is_some o ≡ is_some p → option_map (λ _. a) o ≡ option_map (λ _. a) p
 const_same a None None e = refl

@@ -1,11 +1,14 @@
 -- What changes of the rings do to requests, and to sums over those in flight.
-use Rattle.std.proofs.Common.{◌≡◌, ℕ, ◌+◌, Bool, List, [], ◌∷◌, ◌++◌, map, take, drop, Option, Some, refl, sym, ap, ◌∙◌, arith}
+use Rattle.std.proofs.Common.{◌≡◌, ℕ, ◌+◌, Bool, true, false, List, [], ◌∷◌, ◌++◌, map, take, drop, Option, Some, refl, sym, ap, ◌∙◌, arith}
 use Rattle.std.proofs.lemmas.Bool.{eq-eqb}
 use Rattle.std.proofs.lemmas.List.{append-nil, append_assoc, map-append}
 use Rattle.std.specs.Prelude.{slice_get, ℤ, if◌then◌else◌}
 use Rattle.rc_lang.specs.declared.request.Request.{Request}
+use Rattle.rc_world.specs.declared.controls.Look.{Look}
+use Rattle.rc_world.specs.declared.controls.Look.TheVariants.{Unseen, Peeked, Got}
 use Rattle.rc_world.specs.declared.event.Completion.{Completion}
-use Rattle.rc_world.specs.Machine.{Pending, World, all_begin, begins, completion_of, taken_bytes, without, without_data}
+use Rattle.rc_world.specs.Machine.{Pending, World, all_begin, begins, completion_of, taken_bytes, without, without_data, without_front}
+use Rattle.rc_admit.specs.Worlds.{unreaped}
 use Rattle.rc_admit.proofs.Lists.{sum_over, sum_over-append, sum_over-cut, sum_over-map, sum_over-without}
 
 -- ---- the user data of requests and of completions
@@ -30,6 +33,26 @@ front_is [] c cs e = absurd (cc)
 front_is (r ∷ rs) c cs e =
     let d : r.user_data ≡ c.user_data = cc in
     record { request = r; others = rs; is = refl; same = d; agree = cc; gone = ap (λ (b : Bool). if b then rs else r ∷ without_data c.user_data rs) (eq-eqb r.user_data c.user_data d) }
+
+-- ---- a front completion that is got
+
+-- Its request was reaped.
+abbrev pub is_reaped : Look → Bool
+is_reaped Unseen = false
+is_reaped Peeked = false
+is_reaped Got = true
+
+-- Where it isn't got, each completion is that of a request that isn't reaped,
+pub all_unreaped : (look : Look) (cs : List Completion) → is_reaped look ≡ false → unreaped look cs ≡ cs
+all_unreaped Unseen cs e = refl
+all_unreaped Peeked cs e = refl
+all_unreaped Got cs e = absurd (cc)
+
+-- and the call that reaps takes its request.
+pub front_goes : (look : Look) (u : ℕ) (rs : List Request) → is_reaped look ≡ false → without_front look u rs ≡ without_data u rs
+front_goes Unseen u rs e = refl
+front_goes Peeked u rs e = refl
+front_goes Got u rs e = absurd (cc)
 
 pub agree_more : (rs : List Request) (cs : List Completion) (r : Request) (res : ℤ) → data_of rs ≡ data_in cs → data_of (rs ++ r ∷ []) ≡ data_in (cs ++ completion_of r res ∷ [])
 agree_more rs cs r res e = map-append (λ (r : Request). r.user_data) rs (r ∷ []) ∙ (ap (λ xs. xs ++ r.user_data ∷ []) e ∙ sym (map-append (λ (c : Completion). c.user_data) cs (completion_of r res ∷ [])))

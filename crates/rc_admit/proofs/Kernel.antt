@@ -1,23 +1,30 @@
 -- A step of a thread, also a stray one, and a step of the kernel keep what is true of each world.
 use Rattle.std.proofs.Common.{◌≡◌, ℕ, ◌+◌, ◌≤◌, Bool, true, false, ◌&&◌, List, [], ◌∷◌, ◌++◌, length, Option, Some, None, refl, sym, ap, ◌∙◌, subst, arith}
+use Rattle.std.proofs.lemmas.Bool.{eq-eqb}
 use Rattle.std.specs.Prelude.{nat_eq, slice_get, ℤ, pos, if◌then◌else◌}
 use Rattle.rc_lang.specs.declared.lines.Line.{Line}
 use Rattle.rc_lang.specs.declared.request.Request.{Request}
 use Rattle.rc_lang.specs.Program.{IsProgram, Program, lines_of, stmt_of}
 use Rattle.rc_lang.specs.Requests.{may_complete}
 use Rattle.rc_rules.specs.declared.mode.Peeked.{Peeked}
-use Rattle.rc_rules.specs.declared.mode.Peeked.TheVariants.{Unseen, Sees, SeesOther}
+use Rattle.rc_rules.specs.declared.mode.Peeked.TheVariants.{Unseen, Sees, SeesOther, Got}
+use Rattle.rc_rules.specs.declared.mode.Mode.{Mode}
 use Rattle.rc_rules.specs.Labellings.{headers_bag}
+use Rattle.rc_split.specs.Bags.{Part}
+use Rattle.rc_world.specs.declared.controls.Look.{Look}
+use Rattle.rc_world.specs.declared.controls.Look.TheVariants as looks
 use Rattle.rc_world.specs.declared.event.Completion.{Completion}
 use Rattle.rc_world.specs.declared.event.Event.{Event}
 use Rattle.rc_world.specs.Controls.{Controls, Move, Standing, acts, acts_on, as_event, made, next_at, next_line}
 use Rattle.rc_world.specs.Faults.{is_holder}
 use Rattle.rc_world.specs.Machine.{Pending, World, bytes_brought, completes, completion_of, given_back, in_rings, kernel_event, kernel_step, kernel_step_of, stmt_answer, thread_step, thread_step_at, with_controls, without}
 use Rattle.rc_world.specs.Stray.{stray_step, strays, strays_on}
-use Rattle.rc_admit.proofs.Flight.{agree_more, completed_sum}
+use Rattle.rc_admit.specs.Worlds.{unreaped}
+use Rattle.rc_admit.proofs.Flight.{agree_more, completed_sum, data_in, is_reaped}
+use Rattle.rc_admit.proofs.RequestKinds.{HasKind, owns}
 use Rattle.rc_admit.proofs.Lists.{sum_to, sum_over, Each-append, Each-without, Each-get}
 use Rattle.rc_admit.proofs.Ops.{Keeps}
-use Rattle.rc_admit.proofs.Owned.{Stand, HasEdge, EdgeAt, owns, owns_pending, unheld, FrontFits, held, held_map, HasKind, HasKindPending, WellOwned}
+use Rattle.rc_admit.proofs.Owned.{Stand, HasEdge, EdgeAt, owns_pending, unheld, CqFits, FrontFits, IsNonempty, held, held_map, HasKindPending, Owned, WellOwned}
 use Rattle.rc_admit.proofs.Steps.{line_keeps, stray_keeps}
 
 -- It holds of the world after a step, where that can be made.
@@ -42,12 +49,40 @@ kernel_after w F k res bytes done = go (slice_get w.pending k) refl
     go None e = tt
     go (Some x) e = tested x e (may_complete x.request res && nat_eq (length bytes) (bytes_brought x.request))
 
-front_more : (b : Bool) (cs ds : List Completion) (x : Peeked) → FrontFits b cs x → FrontFits b (cs ++ ds) x
-front_more b cs ds Unseen f = tt
-front_more b [] ds (Sees u) f = absurd f.1
-front_more b (c ∷ cs) ds (Sees u) f = f
-front_more b [] ds SeesOther f = absurd f.1
-front_more b (c ∷ cs) ds SeesOther f = f
+front_more : (look : Look) (cs ds : List Completion) (x : Peeked) → FrontFits look cs x → FrontFits look (cs ++ ds) x
+front_more look cs ds Unseen f = f
+front_more look [] ds (Sees u) f = absurd f.1
+front_more look (c ∷ cs) ds (Sees u) f = f
+front_more look [] ds SeesOther f = absurd f.1
+front_more look (c ∷ cs) ds SeesOther f = f
+front_more look [] ds Got f = absurd f.1
+front_more look (c ∷ cs) ds Got f = f
+
+-- A front completion that is got is there.
+got_there : (P : Program) (S : Stand) (w : World) (bags : ℕ → Part → ℕ) (modes : ℕ → Mode) → Owned P S w bags modes → is_reaped w.controls.look ≡ true → IsNonempty w.completions
+got_there P S w bags modes o g = go w.controls.holders.cq refl
+  where
+    other : is_reaped w.controls.look ≡ false → IsNonempty w.completions
+    other f = let h = g in absurd (cc)
+
+    by : (h : Bool) (s : Option Peeked) → h ≡ true → CqFits w.controls.look w.completions h s → IsNonempty w.completions
+    by false s e f = absurd (cc)
+    by true None e f = absurd f
+    by true (Some Unseen) e f = other f
+    by true (Some (Sees u)) e f = other (ap is_reaped f.0)
+    by true (Some SeesOther) e f = f.1
+    by true (Some Got) e f = f.1
+
+    go : (x : Option ℕ) → w.controls.holders.cq ≡ x → IsNonempty w.completions
+    go None e = other (o.idle e)
+    go (Some j) e = by (is_holder w.controls.holders.cq j) (modes j).cq (ap (λ (x : Option ℕ). is_holder x j) e ∙ eq-eqb j j refl) (o.reaps j)
+
+-- A new completion is that of a request that isn't reaped.
+unreaped_more : (look : Look) (cs ds : List Completion) → (is_reaped look ≡ true → IsNonempty cs) → unreaped look (cs ++ ds) ≡ unreaped look cs ++ ds
+unreaped_more looks.Unseen cs ds h = refl
+unreaped_more looks.Peeked cs ds h = refl
+unreaped_more looks.Got [] ds h = absurd (h refl)
+unreaped_more looks.Got (c ∷ cs) ds h = refl
 
 completes_keeps : (P : Program) (S : Stand) (w : World) (k : ℕ) (res : ℤ) (x : Pending) (bs : List (Option (List ℕ))) → slice_get w.pending k ≡ Some x → WellOwned P S w → WellOwned P S (completes w k res x.request bs)
 completes_keeps P S w k res x bs e h =
@@ -65,12 +100,13 @@ completes_keeps P S w k res x bs e h =
             omega arith;
         within = o.within;
         free = o.free;
+        idle = o.idle;
         submits = o.submits;
-        reaps = λ i. held_map (FrontFits w.controls.peeked w.completions) (FrontFits w.controls.peeked (w.completions ++ completion_of r res ∷ [])) (front_more w.controls.peeked w.completions (completion_of r res ∷ [])) (is_holder w.controls.holders.cq i) (h.1 i).cq (o.reaps i);
+        reaps = λ i. held_map (FrontFits w.controls.look w.completions) (FrontFits w.controls.look (w.completions ++ completion_of r res ∷ [])) (front_more w.controls.look w.completions (completion_of r res ∷ [])) (is_holder w.controls.holders.cq i) (h.1 i).cq (o.reaps i);
         queued = o.queued;
         pending = Each-without (HasKindPending P) k w.pending o.pending;
         completed = Each-append (HasKind P) w.completed (r ∷ []) o.completed (Each-get (HasKindPending P) k w.pending x e o.pending, tt);
-        agree = agree_more w.completed w.completions r res o.agree;
+        agree = agree_more w.completed (unreaped w.controls.look w.completions) r res o.agree ∙ sym (ap data_in (unreaped_more w.controls.look w.completions (completion_of r res ∷ []) (got_there P S w h.0 h.1 o)));
       },
     )
 

@@ -2,9 +2,11 @@ pub mod Rule
 pub mod Lists
 pub mod Flight
 pub mod Pool
+pub mod RequestKinds
 pub mod Owned
 pub mod Tokens
 pub mod Moves
+pub mod Fronts
 pub mod Ops
 pub mod Steps
 pub mod Kernel
@@ -20,4 +22,6 @@ pub mod Flat
 pub mod FlatStart
 pub mod Safe
 pub mod Worlds
+pub mod Reaping
 pub mod Flights
+pub mod Plain

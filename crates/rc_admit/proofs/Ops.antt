@@ -5,37 +5,42 @@ use Rattle.std.specs.Prelude.{slice_get, slice_set, unwrap_or, min, nat_lt, ℤ,
 use Rattle.std.proofs.lemmas.Option.{slice_get_within}
 use Rattle.rc_lang.specs.declared.lines.Stmt.TheVariants.{Do}
 use Rattle.rc_lang.specs.declared.lines.Op.{Op}
-use Rattle.rc_lang.specs.declared.lines.Op.TheVariants.{Set, Load, Store, Fill, Print, GetSqe, PrepRead, PrepWrite, PrepFsync, PrepNop, PrepOther, SetData64, Submit, SubmitAndWait, CqeSeen}
+use Rattle.rc_lang.specs.declared.lines.Op.TheVariants.{Set, Load, Store, Fill, Print, GetSqe, PrepRead, PrepWrite, PrepFsync, PrepNop, PrepOther, SetData64, Submit, SubmitAndWait, CqeGetData64, CqeSeen}
 use Rattle.rc_lang.specs.declared.program.TokenKind.{TokenKind}
 use Rattle.rc_lang.specs.declared.program.TokenKind.TheVariants as tokens
 use Rattle.rc_lang.specs.declared.request.Request.{Request}
-use Rattle.rc_lang.specs.Program.{Program, shares_at}
+use Rattle.rc_lang.specs.Program.{IsProgram, Program, shares_at}
 use Rattle.rc_rules.specs.declared.mode.Mode.{Mode}
 use Rattle.rc_rules.specs.declared.mode.Peeked.{Peeked}
-use Rattle.rc_rules.specs.declared.mode.Peeked.TheVariants.{Unseen, Sees, SeesOther}
+use Rattle.rc_rules.specs.declared.mode.Peeked.TheVariants.{Unseen, Sees, SeesOther, Got}
 use Rattle.rc_rules.specs.declared.mode.Slot.{Slot}
 use Rattle.rc_rules.specs.declared.mode.Slot.TheVariants.{Closed, Vacant, Prepared}
 use Rattle.rc_rules.specs.declared.mode.Submitting.{Submitting}
+use Rattle.rc_rules.specs.Kinds.{kind_bag, kinds_of}
 use Rattle.rc_rules.specs.Needs.{line_premises}
-use Rattle.rc_rules.specs.Rules.{can_queue, is_seen, kind_bag, kind_of, line_bag, op_effect, reaped}
+use Rattle.rc_rules.specs.Room.{can_queue}
+use Rattle.rc_rules.specs.Rules.{got_bag, is_seen, op_effect, reaped}
 use Rattle.rc_rules.specs.Premises.{Meets}
 use Rattle.rc_rules.proofs.Weaker.{same_slot_is}
 use Rattle.rc_split.specs.Bags.{Part, ShareOf, TokenOf, Credit, shares_bag, token_bag, credits_bag, minus, plus}
 use Rattle.rc_split.specs.Pools.{Pools, all_pooled}
 use Rattle.rc_world.specs.declared.controls.Answer.{Answer}
 use Rattle.rc_world.specs.declared.controls.Answer.TheVariants.{Byte}
+use Rattle.rc_world.specs.declared.controls.Look.TheVariants as looks
 use Rattle.rc_world.specs.declared.event.Action.{Action}
 use Rattle.rc_world.specs.declared.event.Completion.{Completion}
 use Rattle.rc_world.specs.declared.world.Slot.{Slot as Entry}
 use Rattle.rc_world.specs.declared.world.Slot.TheVariants as entries
-use Rattle.rc_world.specs.Controls.{Controls, Move, Standing, does, goes_on, loads, low_byte, moved, reaps, variable}
-use Rattle.rc_world.specs.Machine.{Pending, World, bytes_of, byte_of, count_in, fills, fits_buffer, front_of, hands_over, is_take, op_answer, op_in_rings, opens_entry, prepares, queues, reaps_front, slot_len, stores, submits_by, with_bytes, without_data}
-use Rattle.rc_admit.proofs.Flight.{FrontOf, begun, data_in, data_of, front_is, taken_sum}
+use Rattle.rc_world.specs.Controls.{Controls, Move, Standing, does, gets_data, goes_on, loads, low_byte, moved, reaps, variable}
+use Rattle.rc_world.specs.Machine.{Pending, World, bytes_of, byte_of, count_in, fills, fits_buffer, front_of, gets_front, hands_over, is_take, op_answer, op_in_rings, opens_entry, prepares, queues, reaps_front, slot_len, stores, submits_by, with_bytes}
+use Rattle.rc_admit.proofs.Flight.{begun, is_reaped, taken_sum}
+use Rattle.rc_admit.proofs.Fronts.{freed_place, front, front_kind, given_back, nonempty_head, seen, starts_head, told, told_again}
+use Rattle.rc_admit.proofs.RequestKinds.{FitsKind, HasKind, IsAmong, kind_for, kind_found, kinds_distinct, owns, prepared_as, taken_by}
 use Rattle.rc_split.proofs.PoolBags.{same_or_not}
 use Rattle.rc_admit.proofs.Lists.{sum_over, sum_over-append, Each, Each-append, Each-take, Each-drop, Each-map}
-use Rattle.rc_admit.proofs.Moves.{Moved, SqPart, moves, put, cq_has, cq_step, cq_still, sq_has, sq_step, sq_still}
-use Rattle.rc_admit.proofs.Owned.{Stand, Leads, MayBecome, HasEdge, slot_bag, owns, owns_pending, FitsKind, SlotFits, StartsWith, IsNonempty, mode_bag, HasKind, HasKindPending, Owned, WellOwned}
-use Rattle.rc_admit.proofs.Rule.{AtLive, Claim, called, prepared_as, then_known}
+use Rattle.rc_admit.proofs.Moves.{Moved, SqPart, moves, put, cq_has, cq_still, sq_has, sq_step, sq_still}
+use Rattle.rc_admit.proofs.Owned.{Stand, Leads, MayBecome, HasEdge, slot_bag, owns_pending, SlotFits, mode_bag, HasKindPending, Owned, WellOwned}
+use Rattle.rc_admit.proofs.Rule.{AtLive, Claim, called, then_known}
 use Rattle.rc_admit.proofs.Tokens.{entry_free}
 
 pub credit_covered : (b : Part → ℕ) → 1 ≤ b Credit → (p : Part) → credits_bag 1 p ≤ b p
@@ -73,10 +78,6 @@ pub slot_prepared : (s : Entry) (kind : TokenKind) → SlotFits s (Prepared kind
 slot_prepared entries.Closed kind h = absurd h
 slot_prepared entries.Vacant kind h = absurd h
 slot_prepared (entries.Prepared r) kind h = (r, refl, h)
-
--- What comes back with a completion is at most what its request owns.
-given_back : (P : Program) (r : Request) (u : ℕ) (p : Part) → r.user_data ≡ u → reaped P (Sees u) p ≤ owns P p r
-given_back P r u p e = subst (λ v. reaped P (Sees v) p ≤ owns P p r) e (omega arith)
 
 -- ---- what changes
 
@@ -164,10 +165,10 @@ module _ (P : Program) (S : Stand) (w : World) (bags : ℕ → Part → ℕ) (mo
         (λ p. let x : kind_bag P kind p ≤ bags i p = c p in let y : slot_bag P s.slot p ≡ credits_bag 1 p = ap (λ z. slot_bag P z p) f in omega arith)
         (omega arith) (omega arith) fit
 
-    pub set_data : (u : ℕ) (r : Request) (kind : TokenKind) → w.slot ≡ entries.Prepared r → kind_of P u ≡ Some kind → FitsKind r kind → s.slot ≡ Prepared kind → 1 ≤ bags i (TokenOf u) → Moved P w (record w { slot = entries.Closed; queued = w.queued ++ record r { serial = w.made + 1; user_data = u } ∷ []; made = w.made + 1 }) bags modes i (minus (bags i) (token_bag u)) (knowing (record s { slot = Closed }))
-    set_data u r kind x is fit f c =
+    pub set_data : (u : ℕ) (r : Request) (kind : TokenKind) → w.slot ≡ entries.Prepared r → kind_for P (record r { serial = w.made + 1; user_data = u }) ≡ Some kind → IsAmong kind (kinds_of P u) → FitsKind r kind → s.slot ≡ Prepared kind → 1 ≤ bags i (TokenOf u)
+        → Moved P w (record w { slot = entries.Closed; queued = w.queued ++ record r { serial = w.made + 1; user_data = u } ∷ []; made = w.made + 1 }) bags modes i (minus (bags i) (token_bag u)) (knowing (record s { slot = Closed }))
+    set_data u r kind x is among fit f c =
         let new : Request = record r { serial = w.made + 1; user_data = u } in
-        let w1 : World = record w { slot = entries.Closed; queued = w.queued ++ new ∷ []; made = w.made + 1 } in
         let z : slot_len w.slot ≡ 1 = ap slot_len x in
         let g : length w.queued + slot_len w.slot ≤ P.entries = o.room in
         let h : length w.queued + slot_len w.slot ≤ s.queued = has.0 in
@@ -180,23 +181,16 @@ module _ (P : Program) (S : Stand) (w : World) (bags : ℕ → Part → ℕ) (mo
               let x : token_bag u p ≤ bags i p = token_covered (bags i) u c p in
               let y : slot_bag P s.slot p ≡ kind_bag P kind p + credits_bag 1 p = ap (λ z. slot_bag P z p) f in
               let v : mode_bag P (modes i) p ≡ slot_bag P s.slot p = owned_by_slot p in
-              let k : line_bag P (kind_of P u) p ≡ kind_bag P kind p = ap (λ z. line_bag P z p) is in
+              let k : taken_by P (kind_for P new) p ≡ kind_bag P kind p = ap (λ z. taken_by P z p) is in
               let a : sum_over (owns P p) (w.queued ++ new ∷ []) ≡ sum_over (owns P p) w.queued + (owns P p new + 0) = sum_over-append (owns P p) w.queued (new ∷ []) in
               omega arith;
           submits = sq_step P S w bags modes i o (length (w.queued ++ new ∷ [])) entries.Closed s (record s { slot = Closed }) e (omega arith) tt;
           reaps = cq_still P S w bags modes i o;
-          queued = Each-append (HasKind P) w.queued (new ∷ []) o.queued ((kind, is, kept kind fit), tt);
+          queued = Each-append (HasKind P) w.queued (new ∷ []) o.queued (record { kind = kind; is = is; fits = fit; among = among }, tt);
           pending = o.pending;
           completed = o.completed;
           agree = o.agree;
         }
-      where
-        kept : (k : TokenKind) → FitsKind r k → FitsKind (record r { serial = w.made + 1; user_data = u }) k
-        kept (tokens.Read b) f = f
-        kept (tokens.Write b n) f = f
-        kept tokens.Fsync f = f
-        kept tokens.Nop f = f
-        kept tokens.Other f = f
 
     pub submit : (n : ℕ) (ps : List Pending) (bs : List (Option (List ℕ))) → map (λ (x : Pending). x.request) ps ≡ take n w.queued → Moved P w (record w { queued = drop n w.queued; pending = w.pending ++ ps; buffers = bs }) bags modes i (bags i) (modes i)
     submit n ps bs are =
@@ -218,42 +212,13 @@ module _ (P : Program) (S : Stand) (w : World) (bags : ℕ → Part → ℕ) (mo
           agree = o.agree;
         }
 
-  -- ---- calls on the completion side
-
-  -- The front completion and its request go away.
-  pub seen : (k : Peeked) → (modes i).cq ≡ Some k → (b : Part → ℕ) (c : Completion) (cs : List Completion) (f : FrontOf w.completed c cs) → w.completions ≡ c ∷ cs → ((p : Part) → b p ≤ bags i p + owns P p f.request) → Moved P w (record w { completions = cs; completed = without_data c.user_data w.completed; controls = record w.controls { peeked = false } }) bags modes i b (record (modes i) { cq = Some Unseen })
-  seen k e b c cs f ec local = record {
-    of = o.of;
-    room = o.room;
-    same = refl;
-    local = λ p.
-        let x : b p ≤ bags i p + owns P p f.request = local p in
-        let a : sum_over (owns P p) (without_data c.user_data w.completed) ≡ sum_over (owns P p) f.others = ap (sum_over (owns P p)) f.gone in
-        let d : sum_over (owns P p) w.completed ≡ owns P p f.request + sum_over (owns P p) f.others = ap (sum_over (owns P p)) f.is in
-        omega (arith, x);
-    submits = sq_still P S w bags modes i o;
-    reaps = cq_step P S w bags modes i o false cs k Unseen e tt;
-    queued = o.queued;
-    pending = o.pending;
-    completed = subst (λ xs. Each (HasKind P) xs) (sym f.gone) (subst (λ xs. Each (HasKind P) xs) f.is o.completed).1;
-    agree = ap data_of f.gone ∙ f.agree;
-  }
-
-nonempty_head : (cs : List Completion) → IsNonempty cs → (c : Completion) × (ds : List Completion) × (cs ≡ c ∷ ds)
-nonempty_head [] h = absurd h
-nonempty_head (c ∷ cs) h = (c, cs, refl)
-
-pub starts_head : (u : ℕ) (cs : List Completion) → StartsWith u cs → (c : Completion) × (ds : List Completion) × (cs ≡ c ∷ ds) × (c.user_data ≡ u)
-starts_head u [] h = absurd h
-starts_head u (c ∷ cs) h = (c, cs, refl, h)
-
 -- Where a step can be made, the world after it is well owned.
 abbrev pub Keeps : Program → Stand → Controls → ℕ → Option World → Option Move → Type 0
 Keeps P S c i None m = Unit {0}
 Keeps P S c i (Some v) None = Unit {0}
 Keeps P S c i (Some v) (Some m) = WellOwned P S (record v { controls = moved P c i m })
 
-module _ (P : Program) (S : Stand) (edge : HasEdge P S) (w : World) (bags : ℕ → Part → ℕ) (modes : ℕ → Mode) (i : ℕ) (t : Standing) (r : ℤ) (o : Owned P S w bags modes) (get : slice_get w.controls.threads i ≡ Some t) where
+module _ (P : Program) (made : IsProgram P) (S : Stand) (edge : HasEdge P S) (w : World) (bags : ℕ → Part → ℕ) (modes : ℕ → Mode) (i : ℕ) (t : Standing) (r : ℤ) (o : Owned P S w bags modes) (get : slice_get w.controls.threads i ≡ Some t) where
   goes : (w1 : World) (vars : List ℤ) (b : Part → ℕ) (m : Mode) → Moved P w w1 bags modes i b m → Leads S i b m vars (t.place + 1) → WellOwned P S (put P w1 i (t.place + 1) vars)
   goes w1 vars b m v l = moves P S edge w w1 bags modes i t (t.place + 1) vars b m o get v l
 
@@ -305,42 +270,80 @@ module _ (P : Program) (S : Stand) (edge : HasEdge P S) (w : World) (bags : ℕ 
       go false = tt
 
   -- an entry that is queued
-  queue_keeps : (s : Submitting) (action : Action) (u : ℕ) (kind : TokenKind) (x : Entry) → w.slot ≡ x → (modes i).sq ≡ Some s → kind_of P u ≡ Some kind → s.slot ≡ Prepared kind → 1 ≤ bags i (TokenOf u) → Leads S i (minus (bags i) (token_bag u)) (record (modes i) { sq = Some (record s { slot = Closed }) }) t.variables (t.place + 1) → Keeps P S w.controls i (queues w u x) (Some (goes_on w.controls t action))
+  queue_keeps : (s : Submitting) (action : Action) (u : ℕ) (kind : TokenKind) (x : Entry) → w.slot ≡ x → (modes i).sq ≡ Some s → IsAmong kind (kinds_of P u) → s.slot ≡ Prepared kind → 1 ≤ bags i (TokenOf u) → Leads S i (minus (bags i) (token_bag u)) (record (modes i) { sq = Some (record s { slot = Closed }) }) t.variables (t.place + 1) → Keeps P S w.controls i (queues w u x) (Some (goes_on w.controls t action))
   queue_keeps s action u kind entries.Closed q e k f c l = tt
   queue_keeps s action u kind entries.Vacant q e k f c l = tt
   queue_keeps s action u kind (entries.Prepared x) q e k f c l =
       let fit : SlotFits (entries.Prepared x) (Prepared kind) = subst (λ y. SlotFits y (Prepared kind)) q (subst (λ y. SlotFits w.slot y) f (sq_has P S w bags modes i o s e).2) in
-      goes _ t.variables _ _ (set_data P S w bags modes i o s e u x kind q k fit f c) l
+      let is = kind_found (record x { serial = w.made + 1; user_data = u }) kind (kinds_of P u) fit k (kinds_distinct P made u) in
+      goes _ t.variables _ _ (set_data P S w bags modes i o s e u x kind q is k fit f c) l
 
   -- entries that are submitted
-  submit_keeps : (s : Submitting) (x : ℕ) (action : Action) → (modes i).sq ≡ Some s → Leads S i (bags i) (modes i) (slice_set t.variables x r) (t.place + 1) → Keeps P S w.controls i (submits_by w r) (Some (record { action = action; holders = w.controls.holders; peeked = w.controls.peeked; pools = w.controls.pools; place = t.place + 1; variables = slice_set t.variables x r }))
+  submit_keeps : (s : Submitting) (x : ℕ) (action : Action) → (modes i).sq ≡ Some s → Leads S i (bags i) (modes i) (slice_set t.variables x r) (t.place + 1) → Keeps P S w.controls i (submits_by w r) (Some (record { action = action; holders = w.controls.holders; look = w.controls.look; pools = w.controls.pools; place = t.place + 1; variables = slice_set t.variables x r }))
   submit_keeps s x action e l = go (is_take w r)
     where
-      handed : WellOwned P S (record (hands_over w (count_in r)) { controls = moved P w.controls i (record { action = action; holders = w.controls.holders; peeked = w.controls.peeked; pools = w.controls.pools; place = t.place + 1; variables = slice_set t.variables x r }) })
+      handed : WellOwned P S (record (hands_over w (count_in r)) { controls = moved P w.controls i (record { action = action; holders = w.controls.holders; look = w.controls.look; pools = w.controls.pools; place = t.place + 1; variables = slice_set t.variables x r }) })
       handed =
           let n = begun (record w { queued = drop (count_in r) w.queued }) (take (count_in r) w.queued) in
-          subst (λ (v : World). WellOwned P S (record v { controls = moved P w.controls i (record { action = action; holders = w.controls.holders; peeked = w.controls.peeked; pools = w.controls.pools; place = t.place + 1; variables = slice_set t.variables x r }) })) (sym n.is)
+          subst (λ (v : World). WellOwned P S (record v { controls = moved P w.controls i (record { action = action; holders = w.controls.holders; look = w.controls.look; pools = w.controls.pools; place = t.place + 1; variables = slice_set t.variables x r }) })) (sym n.is)
           (goes _ (slice_set t.variables x r) (bags i) (modes i) (submit P S w bags modes i o s e (count_in r) n.pending n.buffers n.are) l)
 
-      go : (y : Bool) → Keeps P S w.controls i (if y then Some (hands_over w (count_in r)) else None) (Some (record { action = action; holders = w.controls.holders; peeked = w.controls.peeked; pools = w.controls.pools; place = t.place + 1; variables = slice_set t.variables x r }))
+      go : (y : Bool) → Keeps P S w.controls i (if y then Some (hands_over w (count_in r)) else None) (Some (record { action = action; holders = w.controls.holders; look = w.controls.look; pools = w.controls.pools; place = t.place + 1; variables = slice_set t.variables x r }))
       go true = handed
       go false = tt
 
-  -- A completion is there, and the state after it has no more than its request gives back.
-  seen_keeps : (k : Peeked) (b : Part → ℕ) (d : Completion) (ds : List Completion) → (modes i).cq ≡ Some k → w.completions ≡ d ∷ ds → ((x : Request) → x.user_data ≡ d.user_data → (p : Part) → b p ≤ bags i p + owns P p x) → Leads S i b (record (modes i) { cq = Some Unseen }) t.variables (t.place + 1) → Keeps P S w.controls i (reaps_front w w.completions) (reaps w.controls t (front_of w.completions))
-  seen_keeps k b d ds e ec local l =
-      let f = front_is w.completed d ds (o.agree ∙ ap data_in ec) in
-      subst (λ cs. Keeps P S w.controls i (reaps_front w cs) (reaps w.controls t (front_of cs))) (sym ec)
-      (goes _ t.variables b (record (modes i) { cq = Some Unseen }) (seen P S w bags modes i o k e b d ds f ec (local f.request f.same)) l)
+  -- ---- the front completion
 
+  -- It is seen: its request is reaped,
+  seen_keeps : (k : Peeked) (b : Part → ℕ) (d : Completion) (ds : List Completion) → (modes i).cq ≡ Some k → w.controls.look ≡ looks.Peeked → w.completions ≡ d ∷ ds → ((x : Request) → HasKind P x → x.user_data ≡ d.user_data → (p : Part) → b p ≤ bags i p + owns P p x) → Leads S i b (record (modes i) { cq = Some Unseen }) t.variables (t.place + 1)
+      → Keeps P S w.controls i (reaps_front w w.completions) (reaps w.controls t (front_of w.completions))
+  seen_keeps k b d ds e n ec local l =
+      let m : is_reaped w.controls.look ≡ false = ap is_reaped n in
+      let f = front P S w bags modes i o k e d ds ec m in
+      subst (λ cs. Keeps P S w.controls i (reaps_front w cs) (reaps w.controls t (front_of cs))) (sym ec)
+      (goes _ t.variables b (record (modes i) { cq = Some Unseen }) (seen P S w bags modes i o k e d ds ec m b (local f.request (front_kind P S w bags modes i o k e d ds ec m) f.same)) l)
+
+  -- unless it was before.
   reap_keeps : (k : Peeked) → (modes i).cq ≡ Some k → is_seen k ≡ true → Leads S i (plus (bags i) (reaped P k)) (record (modes i) { cq = Some Unseen }) t.variables (t.place + 1) → Keeps P S w.controls i (reaps_front w w.completions) (reaps w.controls t (front_of w.completions))
   reap_keeps Unseen e h l = absurd (cc)
   reap_keeps (Sees u) e h l =
-      let a = starts_head u w.completions (cq_has P S w bags modes i o (Sees u) e).1.1 in
-      seen_keeps (Sees u) (plus (bags i) (reaped P (Sees u))) a.0 a.1 e a.2 (λ x is p. omega (arith, given_back P x u p (is ∙ a.3))) l
+      let f = (cq_has P S w bags modes i o (Sees u) e).1 in
+      let a = starts_head u w.completions f.1 in
+      seen_keeps (Sees u) (plus (bags i) (reaped P (Sees u))) a.0 a.1 e f.0 a.2 (λ x kind is p. omega (arith, given_back P x u p kind (is ∙ a.3))) l
   reap_keeps SeesOther e h l =
-      let a = nonempty_head w.completions (cq_has P S w bags modes i o SeesOther e).1.1 in
-      seen_keeps SeesOther (plus (bags i) (credits_bag 1)) a.0 a.1 e a.2 (λ x is p. omega arith) l
+      let f = (cq_has P S w bags modes i o SeesOther e).1 in
+      let a = nonempty_head w.completions f.1 in
+      seen_keeps SeesOther (plus (bags i) (credits_bag 1)) a.0 a.1 e f.0 a.2 (λ x kind is p. omega arith) l
+  reap_keeps Got e h l =
+      let f = (cq_has P S w bags modes i o Got e).1 in
+      let a = nonempty_head w.completions f.1 in
+      subst (λ cs. Keeps P S w.controls i (reaps_front w cs) (reaps w.controls t (front_of cs))) (sym a.2)
+      (goes _ t.variables _ _ (freed_place P S w bags modes i o Got e a.0 a.1 a.2 f.0) l)
+
+  -- Its user data is got: so is its request, and the entry stays.
+  told_keeps : (k : Peeked) (b : Part → ℕ) (d : Completion) (ds : List Completion) → (modes i).cq ≡ Some k → w.controls.look ≡ looks.Peeked → w.completions ≡ d ∷ ds → ((x : Request) → HasKind P x → x.user_data ≡ d.user_data → (p : Part) → b p + credits_bag 1 p ≤ bags i p + owns P p x) → Leads S i b (record (modes i) { cq = Some Got }) t.variables (t.place + 1)
+      → Keeps P S w.controls i (gets_front w w.completions) (gets_data w.controls t (front_of w.completions))
+  told_keeps k b d ds e n ec local l =
+      let m : is_reaped w.controls.look ≡ false = ap is_reaped n in
+      let f = front P S w bags modes i o k e d ds ec m in
+      subst (λ cs. Keeps P S w.controls i (gets_front w cs) (gets_data w.controls t (front_of cs))) (sym ec)
+      (goes _ t.variables b (record (modes i) { cq = Some Got }) (told P S w bags modes i o k e d ds ec m b (local f.request (front_kind P S w bags modes i o k e d ds ec m) f.same)) l)
+
+  get_keeps : (k : Peeked) → (modes i).cq ≡ Some k → is_seen k ≡ true → Leads S i (plus (bags i) (got_bag P k)) (record (modes i) { cq = Some Got }) t.variables (t.place + 1) → Keeps P S w.controls i (gets_front w w.completions) (gets_data w.controls t (front_of w.completions))
+  get_keeps Unseen e h l = absurd (cc)
+  get_keeps (Sees u) e h l =
+      let f = (cq_has P S w bags modes i o (Sees u) e).1 in
+      let a = starts_head u w.completions f.1 in
+      told_keeps (Sees u) (plus (bags i) (got_bag P (Sees u))) a.0 a.1 e f.0 a.2 (λ x kind is p. omega (arith, given_back P x u p kind (is ∙ a.3))) l
+  get_keeps SeesOther e h l =
+      let f = (cq_has P S w bags modes i o SeesOther e).1 in
+      let a = nonempty_head w.completions f.1 in
+      told_keeps SeesOther (plus (bags i) (got_bag P SeesOther)) a.0 a.1 e f.0 a.2 (λ x kind is p. omega arith) l
+  get_keeps Got e h l =
+      let f = (cq_has P S w bags modes i o Got e).1 in
+      let a = nonempty_head w.completions f.1 in
+      subst (λ cs. Keeps P S w.controls i (gets_front w cs) (gets_data w.controls t (front_of cs))) (sym a.2)
+      (goes _ t.variables _ _ (told_again P S w bags modes i o Got e a.0 a.1 a.2 f.0) l)
 
   -- what the rule of a statement says after it
   abbrev Behind : Op → Claim
@@ -372,9 +375,10 @@ module _ (P : Program) (S : Stand) (edge : HasEdge P S) (w : World) (bags : ℕ 
       prep_keeps x.known _ tokens.Other _ w.slot x.is refl (λ p. omega arith) (same_slot_is x.known.slot Vacant (x.asked 5)) (same_bag (bags i) (record (modes i) { sq = Some (record x.known { slot = Prepared tokens.Other }) }) t.variables (minus (bags i) (kind_bag P tokens.Other)) (λ p. omega arith) (then_known (modes i).sq _ (Behind PrepOther) x.known x.is h.1 t.variables refl))
   op_keeps (SetData64 u) h =
       let x = called (modes i).sq _ h.0 in
-      let k = prepared_as (kind_of P u) x.known.slot (x.asked 6) in
+      let k = prepared_as (kinds_of P u) x.known.slot (x.asked 6) in
       queue_keeps x.known _ u k.0 w.slot refl x.is k.1 k.2 (leb-true 1 _ (x.asked 10)) (then_known (modes i).sq _ (Behind (SetData64 u)) x.known x.is h.1 t.variables refl)
   op_keeps (Submit x) h = let s = called (modes i).sq _ h.0 in submit_keeps s.known x _ s.is (h.1 _ (_, refl))
   op_keeps (SubmitAndWait x n) h = let s = called (modes i).sq _ h.0 in submit_keeps s.known x _ s.is (h.1 _ (_, refl))
+  op_keeps CqeGetData64 h = let x = called (modes i).cq _ h.0 in get_keeps x.known x.is (x.asked 11) (then_known (modes i).cq _ (Behind CqeGetData64) x.known x.is h.1 t.variables refl)
   op_keeps CqeSeen h = let x = called (modes i).cq _ h.0 in reap_keeps x.known x.is (x.asked 11) (then_known (modes i).cq _ (Behind CqeSeen) x.known x.is h.1 t.variables refl)
   op_keeps _ h = quietly w.buffers _ (h.1 _ (_, refl))

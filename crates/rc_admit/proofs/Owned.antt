@@ -1,6 +1,6 @@
 -- What is true of each world of an accepted program, over any claim of how a thread may stand.
-use Rattle.std.proofs.Common.{◌≡◌, ℕ, zero, suc, ◌+◌, ◌<◌, ◌≤◌, Bool, true, false, ◌||◌, List, [], ◌∷◌, length, Option, Some, None, refl, sym, subst, ◌⊎◌, arith}
-use Rattle.std.specs.Prelude.{is_some, option_map, replicate, slice_get, slice_set, slice_index_or, ℤ, pos}
+use Rattle.std.proofs.Common.{◌≡◌, ℕ, zero, suc, ◌+◌, ◌<◌, ◌≤◌, Bool, true, false, ◌||◌, List, [], ◌∷◌, length, Option, Some, None, refl, sym, ap, ◌∙◌, subst, ◌⊎◌, arith}
+use Rattle.std.specs.Prelude.{is_some, not, option_map, replicate, slice_get, slice_set, slice_index_or, unwrap_or, ℤ, pos}
 use Rattle.rc_lang.specs.Comparisons.{compares}
 use Rattle.rc_lang.specs.declared.lines.Op.{Op}
 use Rattle.rc_lang.specs.declared.lines.Op.TheVariants.{Set, Assign, Add, Subtract, Load, Submit, SubmitAndWait}
@@ -8,33 +8,34 @@ use Rattle.rc_lang.specs.declared.lines.Stmt.{Stmt}
 use Rattle.rc_lang.specs.declared.lines.Stmt.TheVariants.{Do, Put, Lock, EndLock, If, Else, EndIf, Peek, EndArm, Loop, EndLoop, Break}
 use Rattle.rc_lang.specs.declared.lines.Test.{Test}
 use Rattle.rc_lang.specs.declared.lines.Test.TheVariants.{Compare, ReadyZero, SpaceAtLeast, Take, Any}
-use Rattle.rc_lang.specs.declared.program.TokenKind.{TokenKind}
-use Rattle.rc_lang.specs.declared.program.TokenKind.TheVariants as tokens
-use Rattle.rc_lang.specs.declared.request.Kind.TheVariants.{Nop, Fsync, Read, Write, Other}
-use Rattle.rc_lang.specs.declared.request.Request.{Request}
 use Rattle.rc_lang.specs.Program.{Program, Thread, end_at, items_at, lines_of, lists_of, stmt_at}
 use Rattle.rc_lang.proofs.Closing.{AreAmong}
 use Rattle.rc_rules.specs.declared.mode.Mode.{Mode}
 use Rattle.rc_rules.specs.declared.mode.Peeked.{Peeked}
-use Rattle.rc_rules.specs.declared.mode.Peeked.TheVariants.{Unseen, Sees, SeesOther}
+use Rattle.rc_rules.specs.declared.mode.Peeked.TheVariants.{Unseen, Sees, SeesOther, Got}
 use Rattle.rc_rules.specs.declared.mode.Slot.{Slot}
 use Rattle.rc_rules.specs.declared.mode.Slot.TheVariants.{Closed, Vacant, Prepared}
 use Rattle.rc_rules.specs.declared.mode.Submitting.{Submitting}
-use Rattle.rc_rules.specs.Labels.{Live, UnderLock, WeakerMode, WeakerPeeked, WeakerSubmitting}
+use Rattle.rc_rules.specs.Kinds.{kind_bag}
+use Rattle.rc_rules.specs.Labels.{Live, UnderLock, WeakerMode, WeakerPeeked, Same, Unknown, WeakerSubmitting}
 use Rattle.rc_rules.specs.Premises.{Meets}
-use Rattle.rc_rules.proofs.Weaker.{mode_refl, mode_trans, peeked_less, unseen_least}
+use Rattle.rc_rules.proofs.Weaker.{mode_refl, mode_trans}
 use Rattle.rc_rules.specs.Needs.{line_premises}
 use Rattle.rc_rules.specs.Labellings.{headers_bag}
-use Rattle.rc_rules.specs.Rules.{broken, freed, kind_bag, kind_of, limit, line_bag, locked, locks_of, op_effect, sq_of, test_effect, unlocked, with_peeked}
-use Rattle.rc_split.specs.Bags.{Part, TokenOf, bag_of, credits_bag, minus, token_bag}
+use Rattle.rc_rules.specs.Rules.{broken, freed, is_got, limit, locked, locks_of, op_effect, sq_of, test_effect, unlocked, with_peeked}
+use Rattle.rc_split.specs.Bags.{Part, TokenOf, bag_of, credits_bag, minus}
 use Rattle.rc_split.specs.Pools.{all_pooled}
+use Rattle.rc_world.specs.declared.controls.Look.{Look}
+use Rattle.rc_world.specs.declared.controls.Look.TheVariants as looks
 use Rattle.rc_world.specs.declared.event.Completion.{Completion}
 use Rattle.rc_world.specs.declared.world.Slot.{Slot as Entry}
 use Rattle.rc_world.specs.declared.world.Slot.TheVariants as entries
 use Rattle.rc_world.specs.Controls.{Standing, arm_for, ends_arm, hop_of, is_arm_end, none_arm, or_from, settled}
 use Rattle.rc_world.specs.Faults.{is_holder}
 use Rattle.rc_world.specs.Machine.{Pending, World, slot_len}
-use Rattle.rc_admit.proofs.Flight.{data_in, data_of, in_flight, of_pending}
+use Rattle.rc_admit.specs.Worlds.{unreaped}
+use Rattle.rc_admit.proofs.Flight.{data_in, data_of, in_flight, is_reaped, of_pending}
+use Rattle.rc_admit.proofs.RequestKinds.{FitsKind, HasKind, owns}
 use Rattle.rc_admit.proofs.Lists.{sum_to, sum_to_one, sum_to_two, Each}
 use Rattle.rc_admit.proofs.Rule.{AtLive}
 
@@ -86,7 +87,7 @@ EdgeAt P S i b m vars k (Some (EndIf o)) = Leads S i b m vars (k + 1)
 EdgeAt P S i b m vars k (Some (Peek x)) = Meets (line_premises P [] b m (Peek 0))
     × ((u : ℕ) (v : ℤ) → (1 ≤ b (TokenOf u)) ⊎ (Leads S i b (with_peeked (Sees u) m) (slice_set vars x v) (arm_for P i k u + 1) ⊎ Leads S i b (with_peeked SeesOther m) (slice_set vars x v) (arm_for P i k u + 1)))
     × ((v : ℤ) → Leads S i b (with_peeked Unseen m) (slice_set vars x v) (none_arm P i k + 1))
-EdgeAt P S i b m vars k (Some (EndArm o)) = (is_some m.cq ≡ true) × Leads S i b (with_peeked Unseen m) vars (end_at P i o + 1)
+EdgeAt P S i b m vars k (Some (EndArm o)) = (is_some m.cq ≡ true) × Meets (line_premises P [] b m (EndArm o)) × Leads S i b (with_peeked Unseen m) vars (end_at P i o + 1)
 EdgeAt P S i b m vars k (Some (Loop n)) = Leads S i b m vars (k + 1)
 EdgeAt P S i b m vars k (Some (EndLoop o n)) = Leads S i b m vars (o + 1)
 EdgeAt P S i b m vars k (Some (Break o releases leaves)) = AreAmong releases (locks_of m) × (leaves ≡ true → is_some m.cq ≡ true) × Meets (line_premises P [] b m (Break 0 releases false))
@@ -114,24 +115,18 @@ slot_bag P (Prepared kind) p = kind_bag P kind p + credits_bag 1 p
 abbrev pub mode_bag : Program → Mode → Part → ℕ
 mode_bag P m p = slot_bag P (sq_of m).slot p
 
--- what a request in flight owns: the shares of its token's line, the token and a credit
-abbrev pub owns : Program → Part → Request → ℕ
-owns P p r = line_bag P (kind_of P r.user_data) p + token_bag r.user_data p + credits_bag 1 p
-
 abbrev pub owns_pending : Program → Part → Pending → ℕ
 owns_pending P p = of_pending (owns P p)
 
--- what no thread holds: what the requests in flight own, and what is in the pools
-abbrev pub unheld : Program → World → Part → ℕ
-unheld P w p = in_flight (owns P p) w + all_pooled P w.controls.pools p
+-- what a front completion owns that is got: its place in the ring
+abbrev pub place_bag : Look → Part → ℕ
+place_bag looks.Unseen p = 0
+place_bag looks.Peeked p = 0
+place_bag looks.Got p = credits_bag 1 p
 
--- The request is one of this kind, of this buffer.
-abbrev pub FitsKind : Request → TokenKind → Type 0
-FitsKind r (tokens.Read b) = (r.kind ≡ Read) × (r.buffer ≡ b)
-FitsKind r (tokens.Write b k) = (r.kind ≡ Write) × (r.buffer ≡ b)
-FitsKind r tokens.Fsync = r.kind ≡ Fsync
-FitsKind r tokens.Nop = r.kind ≡ Nop
-FitsKind r tokens.Other = r.kind ≡ Other
+-- what no thread holds: what the requests in flight own, and a completion that is got, and what is in the pools
+abbrev pub unheld : Program → World → Part → ℕ
+unheld P w p = in_flight (owns P p) w + place_bag w.controls.look p + all_pooled P w.controls.pools p
 
 abbrev pub SlotFits : Entry → Slot → Type 0
 SlotFits entries.Closed Closed = Unit {0}
@@ -147,10 +142,12 @@ abbrev pub IsNonempty : List Completion → Type 0
 IsNonempty [] = ⊥
 IsNonempty (c ∷ cs) = Unit {0}
 
-abbrev pub FrontFits : Bool → List Completion → Peeked → Type 0
-FrontFits b cs Unseen = Unit {0}
-FrontFits b cs (Sees u) = (b ≡ true) × StartsWith u cs
-FrontFits b cs SeesOther = (b ≡ true) × IsNonempty cs
+-- The label says that the front completion is got exactly where it is.
+abbrev pub FrontFits : Look → List Completion → Peeked → Type 0
+FrontFits look cs Unseen = is_reaped look ≡ false
+FrontFits look cs (Sees u) = (look ≡ looks.Peeked) × StartsWith u cs
+FrontFits look cs SeesOther = (look ≡ looks.Peeked) × IsNonempty cs
+FrontFits look cs Got = (look ≡ looks.Got) × IsNonempty cs
 
 -- A label has a lock exactly where its thread holds it, and this is so of what it knows under it.
 abbrev pub IfHeld : {A : Type 0} → (A → Type 0) → Bool → Option A → Type 0
@@ -166,15 +163,11 @@ QueueFits n slot s = (n + slot_len slot ≤ s.queued) × SlotFits slot s.slot
 abbrev pub SqFits : (n : ℕ) → Entry → Bool → Option Submitting → Type 0
 SqFits n slot h o = IfHeld (QueueFits n slot) h o
 
-abbrev pub CqFits : (peeked : Bool) → List Completion → Bool → Option Peeked → Type 0
-CqFits peeked cs h o = IfHeld (FrontFits peeked cs) h o
+abbrev pub CqFits : Look → List Completion → Bool → Option Peeked → Type 0
+CqFits look cs h o = IfHeld (FrontFits look cs) h o
 
 abbrev pub held : Program → (Part → ℕ) → Mode → Part → ℕ
 held P b m p = b p + mode_bag P m p
-
--- The request is of the kind that the line of its token says.
-abbrev pub HasKind : Program → Request → Type 0
-HasKind P r = (kind : TokenKind) × (kind_of P r.user_data ≡ Some kind) × FitsKind r kind
 
 abbrev pub HasKindPending : Program → Pending → Type 0
 HasKindPending P x = HasKind P x.request
@@ -187,11 +180,12 @@ pub record Owned (P : Program) (S : ℕ → (Part → ℕ) → Mode → List ℤ
   pub within : (p : Part) → headers_bag P.threads p ≤ limit P p
   pub free : w.controls.holders.sq ≡ None → (length w.queued ≤ P.left) × (w.slot ≡ entries.Closed)
   pub submits : (i : ℕ) → SqFits (length w.queued) w.slot (is_holder w.controls.holders.sq i) (modes i).sq
-  pub reaps : (i : ℕ) → CqFits w.controls.peeked w.completions (is_holder w.controls.holders.cq i) (modes i).cq
+  pub idle : w.controls.holders.cq ≡ None → is_reaped w.controls.look ≡ false
+  pub reaps : (i : ℕ) → CqFits w.controls.look w.completions (is_holder w.controls.holders.cq i) (modes i).cq
   pub queued : Each (HasKind P) w.queued
   pub pending : Each (HasKindPending P) w.pending
   pub completed : Each (HasKind P) w.completed
-  pub agree : data_of w.completed ≡ data_in w.completions
+  pub agree : data_of w.completed ≡ data_in (unreaped w.controls.look w.completions)
 
 abbrev pub WellOwned : Program → Stand → World → Type 0
 WellOwned P S w = (bags : ℕ → Part → ℕ) × (modes : ℕ → Mode) × Owned P S w bags modes
@@ -227,18 +221,23 @@ unseen_in : (o : Option Peeked) → is_some o ≡ true → IsUnseen (option_map 
 unseen_in None e = absurd (cc)
 unseen_in (Some p) e = refl
 
-pub front_below : (o : Option Peeked) → UnderLock WeakerPeeked (option_map (λ _. Unseen) o) o
-front_below None = tt
-front_below (Some p) = unseen_least p
+-- Where the front isn't got, less may be said of it.
+unseen_least : (p : Peeked) → not (is_got p) ≡ true → WeakerPeeked Unseen p
+unseen_least p e = Unknown refl (λ g. let h : not (is_got p) ≡ false = ap (λ q. not (is_got q)) g in cc)
 
-unseen_below : (m : Mode) → WeakerMode (with_peeked Unseen m) m
-unseen_below m = ((mode_refl m).0, front_below m.cq)
+pub front_below : (o : Option Peeked) → not (is_got (unwrap_or o Unseen)) ≡ true → UnderLock WeakerPeeked (option_map (λ _. Unseen) o) o
+front_below None e = tt
+front_below (Some p) e = unseen_least p e
+
+unseen_below : (m : Mode) → not (is_got (unwrap_or m.cq Unseen)) ≡ true → WeakerMode (with_peeked Unseen m) m
+unseen_below m e = ((mode_refl m).0, front_below m.cq e)
 
 unseen_weaker : (o p : Option Peeked) → UnderLock WeakerPeeked o p → IsUnseen p → IsUnseen o
 unseen_weaker None None w u = u
 unseen_weaker None (Some q) w u = absurd w
 unseen_weaker (Some p) None w u = absurd w
-unseen_weaker (Some p) (Some q) w u = peeked_less (λ x. x ≡ Unseen) refl p q w u
+unseen_weaker (Some p) (Some q) (Same e) u = e ∙ u
+unseen_weaker (Some p) (Some q) (Unknown e n) u = e
 
 -- ---- what fits under a lock
 
@@ -272,8 +271,22 @@ module _ {A : Type 0} (F : A → Type 0) where
   held_weaker W g false (Some s) (Some t) w f = f
   held_weaker W g true (Some s) (Some t) w f = g s t w f
 
-pub front_weaker : (b : Bool) (cs : List Completion) (x y : Peeked) → WeakerPeeked y x → FrontFits b cs x → FrontFits b cs y
-front_weaker b cs x y w f = peeked_less (FrontFits b cs) tt y x w f
+-- A label that doesn't say that the front is got says that it isn't.
+pub not_reaped : (look : Look) (cs : List Completion) (x : Peeked) → not (is_got x) ≡ true → FrontFits look cs x → is_reaped look ≡ false
+not_reaped look cs Unseen e f = f
+not_reaped look cs (Sees u) e f = ap is_reaped f.0
+not_reaped look cs SeesOther e f = ap is_reaped f.0
+not_reaped look cs Got e f = absurd (cc)
+
+not_got : (x : Peeked) → (x ≡ Got → ⊥) → not (is_got x) ≡ true
+not_got Unseen n = refl
+not_got (Sees u) n = refl
+not_got SeesOther n = refl
+not_got Got n = absurd (n refl)
+
+pub front_weaker : (look : Look) (cs : List Completion) (x y : Peeked) → WeakerPeeked y x → FrontFits look cs x → FrontFits look cs y
+front_weaker look cs x y (Same e) f = subst (FrontFits look cs) (sym e) f
+front_weaker look cs x y (Unknown e n) f = subst (FrontFits look cs) (sym e) (not_reaped look cs x (not_got x n) f)
 
 pub queue_weaker : (n : ℕ) (slot : Entry) (s t : Submitting) → WeakerSubmitting t s → QueueFits n slot s → QueueFits n slot t
 queue_weaker n slot s t w f = (omega (arith, w.queued, f.0), subst (λ x. SlotFits slot x) (sym w.slot) f.1)
@@ -299,8 +312,8 @@ module _ (P : Program) (S : Stand) (i : ℕ) (vars : List ℤ) (n k : ℕ) (b : 
   settle_at (Some (EndIf o)) h = hops (k + 1) h
   settle_at (Some (EndArm o)) h =
       let past : Mode = with_peeked Unseen l.mode in
-      let s = rest (end_at P i o + 1) l.bag past h.1 in
-      let w : WeakerMode s.leads.mode l.mode = mode_trans s.leads.mode past l.mode s.leads.weaker (unseen_below l.mode) in
+      let s = rest (end_at P i o + 1) l.bag past h.2 in
+      let w : WeakerMode s.leads.mode l.mode = mode_trans s.leads.mode past l.mode s.leads.weaker (unseen_below l.mode h.1.0) in
       record {
         leads = record { bag = s.leads.bag; mode = s.leads.mode; less = λ p. omega (arith, s.leads.less p, l.less p); weaker = mode_trans s.leads.mode l.mode m w l.weaker; stands = s.leads.stands };
         unseen = λ e. unseen_weaker s.leads.mode.cq past.cq s.leads.weaker.1 (unseen_in l.mode.cq h.0);

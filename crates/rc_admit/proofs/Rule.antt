@@ -1,19 +1,17 @@
 -- What the rules say of a live state, premise by premise, and of the state after a line.
-use Rattle.std.proofs.Common.{◌≡◌, ℕ, ◌-◌, ◌<◌, ◌||◌, true, false, cond, nat_eq, List, [], ◌∷◌, Option, Some, None, refl, ap, subst, ◌⊎◌, inl, inr}
-use Rattle.std.specs.Prelude.{is_some, nat_le, nat_lt, unwrap_or}
+use Rattle.std.proofs.Common.{◌≡◌, ℕ, ◌-◌, ◌<◌, ◌||◌, Bool, true, false, cond, nat_eq, List, [], ◌∷◌, Option, Some, None, refl, ap, subst, ◌⊎◌, inl, inr}
+use Rattle.std.specs.Prelude.{is_some, nat_le, nat_lt, not, unwrap_or}
 use Rattle.std.proofs.lemmas.Bool.{and_parts, ltb-true, or_cases}
 use Rattle.rc_lang.specs.declared.lines.Stmt.TheVariants.{Put}
-use Rattle.rc_lang.specs.declared.program.TokenKind.{TokenKind}
 use Rattle.rc_lang.specs.Program.{Items, Program}
 use Rattle.rc_rules.specs.declared.mode.Mode.{Mode}
-use Rattle.rc_rules.specs.declared.mode.Slot.{Slot}
-use Rattle.rc_rules.specs.declared.mode.Slot.TheVariants.{Closed, Prepared}
+use Rattle.rc_rules.specs.declared.mode.Slot.TheVariants.{Closed}
 use Rattle.rc_rules.specs.declared.mode.Submitting.{Submitting}
 use Rattle.rc_rules.specs.Labels.{Label, Dead, Live}
 use Rattle.rc_rules.specs.Needs.{line_premises}
 use Rattle.rc_rules.specs.Premises.{Premise, Is, IsMet, Meets}
-use Rattle.rc_rules.specs.Rules.{can_queue, few_credits, few_tokens, if_locked, is_prepared_as, sq_of, with_lock}
-use Rattle.rc_rules.proofs.Weaker.{same_slot_is}
+use Rattle.rc_rules.specs.Room.{can_queue, few_credits, few_tokens}
+use Rattle.rc_rules.specs.Rules.{if_locked, is_got, leave_needs, peeked_of, premises_of, release_needs, same_slot, sq_of, with_lock}
 use Rattle.rc_split.specs.Bags.{Part, Credit, IsWithin, bag_of, credits_given, lacking}
 
 -- A claim of a live state; of a dead one nothing is claimed.
@@ -71,9 +69,32 @@ then_known o F K s e h = subst (λ x. AtLive (if_locked x F) K) e h
 pub known_sq : (m : Mode) (s : Submitting) → m.sq ≡ Some s → sq_of m ≡ s
 known_sq m s e = ap (λ (o : Option Submitting). unwrap_or o (record { queued = 0; slot = Closed })) e
 
-pub prepared_as : (x : Option TokenKind) (slot : Slot) → is_prepared_as x slot ≡ true → (kind : TokenKind) × (x ≡ Some kind) × (slot ≡ Prepared kind)
-prepared_as None slot e = absurd (cc)
-prepared_as (Some kind) slot e = (kind, refl, same_slot_is slot (Prepared kind) e)
+-- ---- where locks are released
+
+-- Where that of the submission side is, no entry is open, and no more are queued than may be left.
+pub record CanLeave (P : Program) (m : Mode) : Type 0 where
+  pub closed : same_slot (sq_of m).slot Closed ≡ true
+  pub few : nat_le (sq_of m).queued P.left ≡ true
+
+-- at the closing brace of a lock; where it releases that of the completion side, nothing is got
+pub brace_leaves : (P : Program) (b : Part → ℕ) (m : Mode) (sq cq : Bool) → Meets (premises_of P [] true b m (release_needs sq cq)) → sq ≡ true → CanLeave P m
+brace_leaves P b m true true h e = record { closed = h.0; few = h.1.0 }
+brace_leaves P b m true false h e = record { closed = h.0; few = h.1.0 }
+brace_leaves P b m false cq h e = absurd (cc)
+
+pub brace_seen : (P : Program) (b : Part → ℕ) (m : Mode) (sq cq : Bool) → Meets (premises_of P [] true b m (release_needs sq cq)) → cq ≡ true → not (is_got (peeked_of m)) ≡ true
+brace_seen P b m true true h e = h.1.1.0
+brace_seen P b m false true h e = h.0
+brace_seen P b m sq false h e = absurd (cc)
+
+-- and at each break
+pub break_leaves : (P : Program) (b : Part → ℕ) (m : Mode) (sq : Bool) → Meets (premises_of P [] true b m (leave_needs sq)) → sq ≡ true → CanLeave P m
+break_leaves P b m true h e = record { closed = h.0; few = h.1.0 }
+break_leaves P b m false h e = absurd (cc)
+
+pub break_seen : (P : Program) (b : Part → ℕ) (m : Mode) (sq : Bool) → Meets (premises_of P [] true b m (leave_needs sq)) → not (is_got (peeked_of m)) ≡ true
+break_seen P b m true h = h.1.1.0
+break_seen P b m false h = h.1.0
 
 -- ---- pools and the queue
 

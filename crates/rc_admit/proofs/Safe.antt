@@ -1,5 +1,5 @@
 -- Every world of every weak run is well owned, over any claim of how a thread may stand that has the edge law.
-use Rattle.std.proofs.Common.{ℕ, ◌≤◌, List, [], ◌∷◌, subst, inl, inr}
+use Rattle.std.proofs.Common.{ℕ, ◌≤◌, List, [], ◌∷◌, subst, sym, inl, inr}
 use Rattle.std.specs.Prelude.{ℤ}
 use Rattle.rc_lang.specs.Program.{IsProgram, Program}
 use Rattle.rc_rules.specs.declared.mode.Mode.{Mode}
@@ -11,6 +11,7 @@ use Rattle.rc_world.specs.Machine.{World, start_world}
 use Rattle.rc_world.specs.Runs.{IsRun, IsSafe, IsStep}
 use Rattle.rc_world.specs.WeakRuns.{IsWeakRun, IsWeakStep, IsWeaklySafe}
 use Rattle.rc_admit.specs.Laws.{AcceptedIsSafe, AcceptedIsWeaklySafe}
+use Rattle.rc_admit.specs.Worlds.{CompletionsAgree, OfAcceptedWorlds}
 use Rattle.rc_admit.proofs.Excludes.{no_fault}
 use Rattle.rc_admit.proofs.Flat.{labelled_edge}
 use Rattle.rc_admit.proofs.FlatPlaces.{Labelled}
@@ -65,3 +66,7 @@ safe_from_weakly P safe events w r = safe events w (weak_run events (start_world
 
 pub accepted_is_safe : AcceptedIsSafe
 accepted_is_safe P made a = safe_from_weakly P (accepted_is_weakly_safe P made a)
+
+-- The completions of an accepted program are those of its completed requests.
+pub completions_agree : OfAcceptedWorlds CompletionsAgree
+completions_agree P made a events w r = sym (worlds_owned P made (Labelled P) (labelled_claim P made a) events w (weak_run events (start_world P) w r)).2.agree

@@ -1,5 +1,5 @@
 -- What requests own, by their kinds: of a buffer that they name a share, and of one that they fill all.
-use Rattle.std.proofs.Common.{◌≡◌, ℕ, ◌+◌, ◌<◌, ◌≤◌, true, false, cond, ◌||◌, ◌&&◌, List, [], ◌∷◌, length, Some, refl, sym, ap, ◌∙◌, subst, inl, inr, arith}
+use Rattle.std.proofs.Common.{◌≡◌, ℕ, ◌+◌, ◌<◌, ◌≤◌, true, false, cond, ◌||◌, ◌&&◌, List, [], ◌∷◌, length, Some, refl, sym, ap, ◌∙◌, inl, inr, arith}
 use Rattle.std.proofs.lemmas.Bool.{and_from, and_parts, eq-eqb, eqb-true, false_from_ne_true, or_cases, or_from}
 use Rattle.std.specs.List.{list_any}
 use Rattle.std.specs.Prelude.{nat_eq, slice_get}
@@ -7,16 +7,15 @@ use Rattle.rc_lang.specs.declared.program.TokenKind.{TokenKind}
 use Rattle.rc_lang.specs.declared.program.TokenKind.TheVariants.{Read, Write, Fsync, Nop, Other}
 use Rattle.rc_lang.specs.declared.request.Request.{Request}
 use Rattle.rc_lang.specs.Program.{IsProgram, IsTokenKind, Program, no_buffer, shares_at}
-use Rattle.rc_rules.specs.Rules.{kind_bag, kind_of, line_bag}
-use Rattle.rc_rules.specs.States.{IsLine}
-use Rattle.rc_rules.proofs.Lines.{line_of}
+use Rattle.rc_rules.specs.Kinds.{kind_bag}
 use Rattle.rc_split.specs.Bags.{ShareOf, TokenOf, shares_bag}
 use Rattle.rc_world.specs.Faults.{clash, clashes, clashes_with, has_buffer, has_data, names}
 use Rattle.rc_world.specs.Machine.{Pending, is_read}
 use Rattle.rc_world.proofs.Lists.{found}
 use Rattle.rc_split.proofs.PoolBags.{same_or_not}
 use Rattle.rc_admit.proofs.Lists.{sum_over, sum_over_one, Each, Each-get}
-use Rattle.rc_admit.proofs.Owned.{FitsKind, HasKind, HasKindPending, owns, owns_pending}
+use Rattle.rc_admit.proofs.RequestKinds.{FitsKind, HasKind, kind_for, kind_made, owns, taken_by}
+use Rattle.rc_admit.proofs.Owned.{HasKindPending, owns_pending}
 use Rattle.rc_admit.proofs.Tokens.{token_owned}
 
 same_shares : (c d k : ℕ) → c ≡ d → shares_bag c k (ShareOf d) ≡ k
@@ -25,16 +24,12 @@ same_shares c d k e = elim (same_or_not c d) [ inl h ↦ ap (λ t. cond t k 0) h
 pub buffer_shared : (P : Program) → IsProgram P → (b : ℕ) → b < length P.buffers → 1 ≤ shares_at P.buffers b
 buffer_shared P made b lt = (made.buffers b no_buffer lt).shares.0
 
--- The kind of a token is one of the program's.
-token_kind : (P : Program) → IsProgram P → (u : ℕ) (kind : TokenKind) → kind_of P u ≡ Some kind → IsTokenKind P kind
-token_kind P made u kind e = subst (IsLine P) e (line_of P u made)
-
--- what a request owns, as its token's line says
-owned_is : (P : Program) (r : Request) (kind : TokenKind) (b : ℕ) → kind_of P r.user_data ≡ Some kind → owns P (ShareOf b) r ≡ kind_bag P kind (ShareOf b)
-owned_is P r kind b e = let h : line_bag P (kind_of P r.user_data) (ShareOf b) ≡ kind_bag P kind (ShareOf b) = ap (λ x. line_bag P x (ShareOf b)) e in omega arith
+-- what a request owns of a buffer, by its kind
+owned_is : (P : Program) (r : Request) (kind : TokenKind) (b : ℕ) → kind_for P r ≡ Some kind → owns P (ShareOf b) r ≡ kind_bag P kind (ShareOf b)
+owned_is P r kind b e = let h : taken_by P (kind_for P r) (ShareOf b) ≡ kind_bag P kind (ShareOf b) = ap (λ x. taken_by P x (ShareOf b)) e in omega arith
 
 pub names_one : (P : Program) → IsProgram P → (r : Request) (b : ℕ) → HasKind P r → names b r ≡ true → 1 ≤ owns P (ShareOf b) r
-names_one P made r b h n = go h.0 (token_kind P made r.user_data h.0 h.1) h.2 (owned_is P r h.0 b h.1)
+names_one P made r b h n = go h.kind (kind_made P made r.user_data h.kind h.among) h.fits (owned_is P r h.kind b h.is)
   where
     parts : (has_buffer r.kind ≡ true) × (r.buffer ≡ b)
     parts = let a = and_parts (has_buffer r.kind) (nat_eq r.buffer b) n in (a.0, eqb-true r.buffer b a.1)
@@ -53,7 +48,7 @@ names_one P made r b h n = go h.0 (token_kind P made r.user_data h.0 h.1) h.2 (o
     go Other k f e = let x : has_buffer r.kind ≡ false = ap has_buffer f in let y : has_buffer r.kind ≡ true = parts.0 in absurd (cc)
 
 pub fills_all : (P : Program) (r : Request) (b : ℕ) → HasKind P r → is_read r.kind ≡ true → r.buffer ≡ b → shares_at P.buffers b ≤ owns P (ShareOf b) r
-fills_all P r b h reads is = go h.0 h.2 (owned_is P r h.0 b h.1)
+fills_all P r b h reads is = go h.kind h.fits (owned_is P r h.kind b h.is)
   where
     go : (kind : TokenKind) → FitsKind r kind → owns P (ShareOf b) r ≡ kind_bag P kind (ShareOf b) → shares_at P.buffers b ≤ owns P (ShareOf b) r
     go (Read c) f e =

@@ -94,6 +94,7 @@ module _ (P : Program) (S : Stand) (start : HasStart P S) where
           omega (arith, x, y, none);
       within = within;
       free = λ n. (omega arith, refl);
+      idle = λ n. refl;
       submits = λ i. tt;
       reaps = λ i. tt;
       queued = tt;

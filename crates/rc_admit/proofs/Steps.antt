@@ -17,32 +17,36 @@ use Rattle.rc_lang.proofs.Closing.{AreAmong}
 use Rattle.rc_lang.specs.Program.{IsItems, IsProgram, Items, Program, end_at, items_at, lists_of}
 use Rattle.rc_rules.specs.declared.mode.Mode.{Mode}
 use Rattle.rc_rules.specs.declared.mode.Peeked.{Peeked}
-use Rattle.rc_rules.specs.declared.mode.Peeked.TheVariants.{Unseen, Sees, SeesOther}
+use Rattle.rc_rules.specs.declared.mode.Peeked.TheVariants.{Unseen, Sees, SeesOther, Got}
 use Rattle.rc_rules.specs.declared.mode.Slot.TheVariants.{Closed}
 use Rattle.rc_rules.specs.declared.mode.Submitting.{Submitting}
 use Rattle.rc_rules.specs.Labels.{Label, Dead, Live}
 use Rattle.rc_rules.specs.Premises.{Meets}
 use Rattle.rc_rules.specs.Needs.{line_premises}
-use Rattle.rc_rules.specs.Rules.{at_most, can_take, freed, has_room, leave_needs, limit, locked, locks_of, names_peeked, peeked_of, premises_of, release_needs, same_slot, take_effect, test_effect, test_mode, with_peeked}
+use Rattle.rc_rules.specs.Rules.{at_most, can_take, freed, has_room, is_got, limit, locked, locks_of, names_peeked, peeked_of, same_slot, take_effect, test_effect, test_mode, with_peeked}
 use Rattle.rc_rules.proofs.Weaker.{same_slot_is}
 use Rattle.rc_split.specs.Bags.{Part, TokenOf, bag_of, minus, plus}
 use Rattle.rc_split.specs.Pools.{all_pooled, includes, overfills, pool_of, pooled, put_into, taken_from}
 use Rattle.rc_split.proofs.AllPools.{all_with, all_without, pooled_most}
 use Rattle.rc_split.proofs.Named.{included}
 use Rattle.rc_world.specs.declared.controls.Answer.TheVariants.{Plain}
+use Rattle.rc_world.specs.declared.controls.Look.{Look}
+use Rattle.rc_world.specs.declared.controls.Look.TheVariants as looks
 use Rattle.rc_world.specs.declared.event.Action.TheVariants.{ItemsPut}
 use Rattle.rc_world.specs.declared.event.Completion.{Completion}
 use Rattle.rc_world.specs.declared.world.Slot.TheVariants as entries
 use Rattle.rc_world.specs.Controls.{Standing, acts, are_free, arm_for, branches, decides, goes_on, held_by, is_choice, is_free, locks, none_arm, peeks, plainly, puts_items, takes_locks, tries_to_take}
 use Rattle.rc_world.specs.Machine.{World, front_of, in_rings, slot_len, stmt_answer, test_answer, used_entries}
 use Rattle.rc_world.specs.Stray.{strays}
-use Rattle.rc_admit.proofs.Flight.{data_in, front_is}
+use Rattle.rc_admit.proofs.Flight.{all_unreaped, data_in, front_is, is_reaped}
+use Rattle.rc_admit.proofs.Fronts.{starts_head}
+use Rattle.rc_admit.proofs.RequestKinds.{owns}
 use Rattle.rc_admit.proofs.Lists.{sum_over}
-use Rattle.rc_admit.proofs.Moves.{CqPart, Moved, SqPart, moves, put, with_locks, cq_frees, cq_has, cq_step, cq_takes, sq_frees, sq_has, sq_step, sq_still, sq_takes, cq_still, taken}
-use Rattle.rc_admit.proofs.Ops.{Keeps, slot_closed, op_keeps, pooling, quiet, starts_head}
-use Rattle.rc_admit.proofs.Owned.{Stand, Leads, MayPass, EdgeAt, HasEdge, slot_bag, mode_bag, owns, unheld, SlotFits, StartsWith, IsNonempty, FrontFits, Owned, WellOwned, bound_one}
+use Rattle.rc_admit.proofs.Moves.{CqPart, Moved, SqPart, moves, put, with_locks, cq_frees, cq_has, cq_step, cq_takes, idle_later, place_later, sq_frees, sq_has, sq_step, sq_still, sq_takes, cq_still, taken, unreaped_later}
+use Rattle.rc_admit.proofs.Ops.{Keeps, slot_closed, op_keeps, pooling, quiet}
+use Rattle.rc_admit.proofs.Owned.{Stand, Leads, MayPass, EdgeAt, HasEdge, slot_bag, mode_bag, place_bag, unheld, SlotFits, StartsWith, IsNonempty, FrontFits, Owned, WellOwned, bound_one, not_reaped}
 use Rattle.rc_admit.proofs.Pool.{items_of, room_for, token_there}
-use Rattle.rc_admit.proofs.Rule.{AtLive, Claim, asks_lock, held_of, known_sq, put_covered}
+use Rattle.rc_admit.proofs.Rule.{AtLive, CanLeave, Claim, asks_lock, brace_leaves, brace_seen, break_leaves, break_seen, called, held_of, known_sq, put_covered}
 use Rattle.rc_admit.proofs.Tokens.{token_owned}
 
 -- what is claimed where a test that always may pass does
@@ -64,6 +68,12 @@ bag_taken P false x p = omega arith
 bag_freed : (P : Program) (b : Bool) (x : Option Submitting) (p : Part) → slot_bag P (unwrap_or (cond b None x) (record { queued = 0; slot = Closed })).slot p ≤ slot_bag P (unwrap_or x (record { queued = 0; slot = Closed })).slot p
 bag_freed P true x p = omega arith
 bag_freed P false x p = omega arith
+
+-- A front completion that isn't got owns nothing.
+nothing_placed : (look : Look) (p : Part) → is_reaped look ≡ false → place_bag look p ≡ 0
+nothing_placed looks.Unseen p e = refl
+nothing_placed looks.Peeked p e = refl
+nothing_placed looks.Got p e = absurd (cc)
 
 module _ (P : Program) (S : Stand) (w : World) (bags : ℕ → Part → ℕ) (modes : ℕ → Mode) (i : ℕ) (o : Owned P S w bags modes) where
   -- The label says that fewer are queued, as they are.
@@ -87,19 +97,26 @@ module _ (P : Program) (S : Stand) (w : World) (bags : ℕ → Part → ℕ) (mo
         agree = o.agree;
       }
 
-  -- The label says something else of the front, in the same world but for what is peeked.
-  sees : (pe : Bool) (k x : Peeked) → (modes i).cq ≡ Some k → FrontFits pe w.completions x → Moved P w (with_locks w w.controls.holders pe) bags modes i (bags i) (with_peeked x (modes i))
-  sees pe k x e fit = record {
+  -- What the label says that isn't got isn't.
+  front_open : (p : Peeked) → (modes i).cq ≡ Some p → not (is_got p) ≡ true → is_reaped w.controls.look ≡ false
+  front_open p e n = not_reaped w.controls.look w.completions p n (cq_has P S w bags modes i o p e).1
+
+  known_open : (p : Peeked) → (modes i).cq ≡ Some p → not (is_got (peeked_of (modes i))) ≡ true → is_reaped w.controls.look ≡ false
+  known_open p e n = front_open p e (subst (λ x. not (is_got (unwrap_or x Unseen)) ≡ true) e n)
+
+  -- The label says something else of the front, in the same world but for what was done with that; it isn't got.
+  sees : (look : Look) (k x : Peeked) → (modes i).cq ≡ Some k → is_reaped w.controls.look ≡ false → is_reaped look ≡ false → FrontFits look w.completions x → Moved P w (with_locks w w.controls.holders look) bags modes i (bags i) (with_peeked x (modes i))
+  sees look k x e n m fit = record {
     of = o.of;
     room = o.room;
     same = refl;
-    local = λ p. omega arith;
+    local = λ p. omega (arith, nothing_placed look p m);
     submits = sq_still P S w bags modes i o;
-    reaps = subst (λ c. CqPart w.controls.holders.cq pe w.completions modes i c) (sym (ap (option_map (λ _. x)) e)) (cq_step P S w bags modes i o pe w.completions k x e fit);
+    reaps = subst (λ c. CqPart w.controls.holders.cq look w.completions modes i c) (sym (ap (option_map (λ _. x)) e)) (cq_step P S w bags modes i o look w.completions k x e fit);
     queued = o.queued;
     pending = o.pending;
     completed = o.completed;
-    agree = o.agree;
+    agree = o.agree ∙ ap data_in (all_unreaped w.controls.look w.completions n ∙ sym (all_unreaped look w.completions m));
   }
 
   -- Each lock is taken or kept,
@@ -107,11 +124,11 @@ module _ (P : Program) (S : Stand) (w : World) (bags : ℕ → Part → ℕ) (mo
   sq_taken true n = sq_takes P S w bags modes i o (n refl)
   sq_taken false n = sq_still P S w bags modes i o
 
-  cq_taken : (b : Bool) → (b ≡ true → w.controls.holders.cq ≡ None) → CqPart (if b then Some i else w.controls.holders.cq) w.controls.peeked w.completions modes i (cond b (Some Unseen) (modes i).cq)
+  cq_taken : (b : Bool) → (b ≡ true → w.controls.holders.cq ≡ None) → CqPart (if b then Some i else w.controls.holders.cq) w.controls.look w.completions modes i (cond b (Some Unseen) (modes i).cq)
   cq_taken true n = cq_takes P S w bags modes i o (n refl)
   cq_taken false n = cq_still P S w bags modes i o
 
-  takes : (l : Locks) → (l.sq ≡ true → w.controls.holders.sq ≡ None) → (l.cq ≡ true → w.controls.holders.cq ≡ None) → Moved P w (with_locks w (held_by (Some i) l w.controls.holders) w.controls.peeked) bags modes i (bags i) (locked P l (modes i))
+  takes : (l : Locks) → (l.sq ≡ true → w.controls.holders.sq ≡ None) → (l.cq ≡ true → w.controls.holders.cq ≡ None) → Moved P w (with_locks w (held_by (Some i) l w.controls.holders) w.controls.look) bags modes i (bags i) (locked P l (modes i))
   takes l n m = record {
     of = o.of;
     room = o.room;
@@ -126,29 +143,29 @@ module _ (P : Program) (S : Stand) (w : World) (bags : ℕ → Part → ℕ) (mo
   }
 
   -- or given back.
-  sq_freed : (b : Bool) → (b ≡ true → is_some (modes i).sq ≡ true) → (b ≡ true → Meets (premises_of P [] true (bags i) (modes i) (leave_needs true))) → SqPart P (if b then None else w.controls.holders.sq) (length w.queued) w.slot modes i (cond b None (modes i).sq)
+  sq_freed : (b : Bool) → (b ≡ true → is_some (modes i).sq ≡ true) → (b ≡ true → CanLeave P (modes i)) → SqPart P (if b then None else w.controls.holders.sq) (length w.queued) w.slot modes i (cond b None (modes i).sq)
   sq_freed true l h =
       let s = held_of (modes i).sq (l refl) in
       let known = known_sq (modes i) s.0 s.1 in
-      let closed : same_slot s.0.slot Closed ≡ true = subst (λ (x : Submitting). same_slot x.slot Closed ≡ true) known (h refl).0 in
-      let left : nat_le s.0.queued P.left ≡ true = subst (λ (x : Submitting). nat_le x.queued P.left ≡ true) known (h refl).1.0 in
+      let closed : same_slot s.0.slot Closed ≡ true = subst (λ (x : Submitting). same_slot x.slot Closed ≡ true) known (h refl).closed in
+      let left : nat_le s.0.queued P.left ≡ true = subst (λ (x : Submitting). nat_le x.queued P.left ≡ true) known (h refl).few in
       let has = sq_has P S w bags modes i o s.0 s.1 in
       let empty : w.slot ≡ entries.Closed = slot_closed w.slot (subst (λ x. SlotFits w.slot x) (same_slot_is s.0.slot Closed closed) has.2) in
       sq_frees P S w bags modes i o s.0 s.1 (leb-true _ _ left) empty
   sq_freed false l h = sq_still P S w bags modes i o
 
-  cq_freed : (b : Bool) → (b ≡ true → is_some (modes i).cq ≡ true) → CqPart (if b then None else w.controls.holders.cq) w.controls.peeked w.completions modes i (cond b None (modes i).cq)
-  cq_freed true l = let c = held_of (modes i).cq (l refl) in cq_frees P S w bags modes i o w.controls.peeked c.0 c.1
-  cq_freed false l = cq_still P S w bags modes i o
+  cq_freed : (b : Bool) → (b ≡ true → is_some (modes i).cq ≡ true) → (b ≡ true → not (is_got (peeked_of (modes i))) ≡ true) → CqPart (if b then None else w.controls.holders.cq) w.controls.look w.completions modes i (cond b None (modes i).cq)
+  cq_freed true l n = let c = held_of (modes i).cq (l refl) in cq_frees P S w bags modes i o w.controls.look c.0 c.1 (known_open c.0 c.1 (n refl))
+  cq_freed false l n = cq_still P S w bags modes i o
 
-  frees : (l : Locks) → AreAmong l (locks_of (modes i)) → (l.sq ≡ true → Meets (premises_of P [] true (bags i) (modes i) (leave_needs true))) → Moved P w (with_locks w (held_by None l w.controls.holders) w.controls.peeked) bags modes i (bags i) (freed l (modes i))
-  frees l held h = record {
+  frees : (l : Locks) → AreAmong l (locks_of (modes i)) → (l.sq ≡ true → CanLeave P (modes i)) → (l.cq ≡ true → not (is_got (peeked_of (modes i))) ≡ true) → Moved P w (with_locks w (held_by None l w.controls.holders) w.controls.look) bags modes i (bags i) (freed l (modes i))
+  frees l held h n = record {
     of = o.of;
     room = o.room;
     same = refl;
     local = λ p. omega (arith, bag_freed P l.sq (modes i).sq p);
     submits = sq_freed l.sq held.sq h;
-    reaps = cq_freed l.cq held.cq;
+    reaps = cq_freed l.cq held.cq n;
     queued = o.queued;
     pending = o.pending;
     completed = o.completed;
@@ -156,34 +173,35 @@ module _ (P : Program) (S : Stand) (w : World) (bags : ℕ → Part → ℕ) (mo
   }
 
   -- A break gives back, and ends what is peeked where it leaves an arm.
-  cq_broken : (b leaves : Bool) → (b ≡ true → is_some (modes i).cq ≡ true) → (leaves ≡ true → is_some (modes i).cq ≡ true) → CqPart (if b then None else w.controls.holders.cq) (if leaves then false else w.controls.peeked) w.completions modes i (cond b None (option_map (λ _. Unseen) (modes i).cq))
-  cq_broken true leaves l g = let c = held_of (modes i).cq (l refl) in cq_frees P S w bags modes i o (if leaves then false else w.controls.peeked) c.0 c.1
-  cq_broken false leaves l g = go (modes i).cq refl leaves g
-    where
-      go : (c : Option Peeked) → (modes i).cq ≡ c → (leaves : Bool) → (leaves ≡ true → is_some (modes i).cq ≡ true) → CqPart w.controls.holders.cq (if leaves then false else w.controls.peeked) w.completions modes i (option_map (λ _. Unseen) (modes i).cq)
-      go None e false g = subst (λ x. CqPart w.controls.holders.cq w.controls.peeked w.completions modes i x) (e ∙ sym (ap (option_map (λ _. Unseen)) e)) (cq_still P S w bags modes i o)
-      go None e true g = absurd (let f : is_some (modes i).cq ≡ true = g refl in let h : is_some (modes i).cq ≡ false = ap is_some e in cc)
-      go (Some s) e v g = subst (λ x. CqPart w.controls.holders.cq (if v then false else w.controls.peeked) w.completions modes i x) (sym (ap (option_map (λ _. Unseen)) e)) (cq_step P S w bags modes i o (if v then false else w.controls.peeked) w.completions s Unseen e tt)
+  module _ (n : not (is_got (peeked_of (modes i))) ≡ true) where
+    cq_broken : (b leaves : Bool) → (b ≡ true → is_some (modes i).cq ≡ true) → (leaves ≡ true → is_some (modes i).cq ≡ true) → CqPart (if b then None else w.controls.holders.cq) (if leaves then looks.Unseen else w.controls.look) w.completions modes i (cond b None (option_map (λ _. Unseen) (modes i).cq))
+    cq_broken true leaves l g = let c = held_of (modes i).cq (l refl) in cq_frees P S w bags modes i o (if leaves then looks.Unseen else w.controls.look) c.0 c.1 (idle_later leaves w.controls.look (known_open c.0 c.1 n))
+    cq_broken false leaves l g = go (modes i).cq refl leaves g
+      where
+        go : (c : Option Peeked) → (modes i).cq ≡ c → (leaves : Bool) → (leaves ≡ true → is_some (modes i).cq ≡ true) → CqPart w.controls.holders.cq (if leaves then looks.Unseen else w.controls.look) w.completions modes i (option_map (λ _. Unseen) (modes i).cq)
+        go None e false g = subst (λ x. CqPart w.controls.holders.cq w.controls.look w.completions modes i x) (e ∙ sym (ap (option_map (λ _. Unseen)) e)) (cq_still P S w bags modes i o)
+        go None e true g = absurd (let f : is_some (modes i).cq ≡ true = g refl in let h : is_some (modes i).cq ≡ false = ap is_some e in cc)
+        go (Some s) e v g = subst (λ x. CqPart w.controls.holders.cq (if v then looks.Unseen else w.controls.look) w.completions modes i x) (sym (ap (option_map (λ _. Unseen)) e)) (cq_step P S w bags modes i o (if v then looks.Unseen else w.controls.look) w.completions s Unseen e (idle_later v w.controls.look (known_open s e n)))
 
-  breaks_out : (l : Locks) (leaves : Bool) → AreAmong l (locks_of (modes i)) → (leaves ≡ true → is_some (modes i).cq ≡ true) → (l.sq ≡ true → Meets (premises_of P [] true (bags i) (modes i) (leave_needs true))) → Moved P w (with_locks w (held_by None l w.controls.holders) (if leaves then false else w.controls.peeked)) bags modes i (bags i) (freed l (with_peeked Unseen (modes i)))
-  breaks_out l leaves held arm h = record {
-    of = o.of;
-    room = o.room;
-    same = refl;
-    local = λ p. omega (arith, bag_freed P l.sq (modes i).sq p);
-    submits = sq_freed l.sq held.sq h;
-    reaps = cq_broken l.cq leaves held.cq arm;
-    queued = o.queued;
-    pending = o.pending;
-    completed = o.completed;
-    agree = o.agree;
-  }
+    breaks_out : (l : Locks) (leaves : Bool) → AreAmong l (locks_of (modes i)) → (leaves ≡ true → is_some (modes i).cq ≡ true) → (l.sq ≡ true → CanLeave P (modes i)) → Moved P w (with_locks w (held_by None l w.controls.holders) (if leaves then looks.Unseen else w.controls.look)) bags modes i (bags i) (freed l (with_peeked Unseen (modes i)))
+    breaks_out l leaves held arm h = record {
+      of = o.of;
+      room = o.room;
+      same = refl;
+      local = λ p. omega (arith, bag_freed P l.sq (modes i).sq p, place_later leaves w.controls.look p);
+      submits = sq_freed l.sq held.sq h;
+      reaps = cq_broken l.cq leaves held.cq arm;
+      queued = o.queued;
+      pending = o.pending;
+      completed = o.completed;
+      agree = o.agree ∙ ap data_in (sym (unreaped_later leaves w.controls.look w.completions (λ e. let c = held_of (modes i).cq (arm e) in known_open c.0 c.1 n)));
+    }
 
 -- A token that is held or in a pool and a completed request under it would be two of one.
-twice : (P : Program) (S : Stand) (w : World) (bags : ℕ → Part → ℕ) (modes : ℕ → Mode) (i : ℕ) (t : Standing) (d : Completion) (ds : List Completion) → Owned P S w bags modes → slice_get w.controls.threads i ≡ Some t → w.completions ≡ d ∷ ds → 1 ≤ bags i (TokenOf d.user_data) + all_pooled P w.controls.pools (TokenOf d.user_data) → ⊥
-twice P S w bags modes i t d ds o get e h =
+twice : (P : Program) (S : Stand) (w : World) (bags : ℕ → Part → ℕ) (modes : ℕ → Mode) (i : ℕ) (t : Standing) (d : Completion) (ds : List Completion) → Owned P S w bags modes → slice_get w.controls.threads i ≡ Some t → is_reaped w.controls.look ≡ false → w.completions ≡ d ∷ ds → 1 ≤ bags i (TokenOf d.user_data) + all_pooled P w.controls.pools (TokenOf d.user_data) → ⊥
+twice P S w bags modes i t d ds o get n e h =
     let p : Part = TokenOf d.user_data in
-    let f = front_is w.completed d ds (o.agree ∙ ap data_in e) in
+    let f = front_is w.completed d ds (o.agree ∙ ap data_in (all_unreaped w.controls.look w.completions n ∙ e)) in
     let fl : sum_over (owns P p) w.completed ≡ owns P p f.request + sum_over (owns P p) f.others = ap (sum_over (owns P p)) f.is in
     let one : 1 ≤ owns P p f.request = token_owned P f.request d.user_data f.same in
     let tot : bags i p + unheld P w p ≤ 1 = bound_one P S w bags modes o p i (slice_get_within w.controls.threads i t get) in
@@ -255,10 +273,12 @@ module _ (P : Program) (made : IsProgram P) (S : Stand) (edge : HasEdge P S) (w 
     not_peeked None e = refl
     not_peeked (Some Unseen) e = refl
     not_peeked (Some SeesOther) e = refl
+    not_peeked (Some Got) e = refl
     not_peeked (Some (Sees u)) e = false_from_ne_true (list_any (λ v. nat_eq v u) items.tokens) (λ h.
-        let a = starts_head u w.completions (cq_has P S w bags modes i o (Sees u) e).1.1 in
+        let f = (cq_has P S w bags modes i o (Sees u) e).1 in
+        let a = starts_head u w.completions f.1 in
         let one : 1 ≤ all_pooled P w.controls.pools (TokenOf u) = omega (arith, there (TokenOf u), token_there items.tokens u h) in
-        twice P S w bags modes i t a.0 a.1 o get a.2 (subst (λ v. 1 ≤ bags i (TokenOf v) + all_pooled P w.controls.pools (TokenOf v)) (sym a.3) (omega (arith, one))))
+        twice P S w bags modes i t a.0 a.1 o get (ap is_reaped f.0) a.2 (subst (λ v. 1 ≤ bags i (TokenOf v) + all_pooled P w.controls.pools (TokenOf v)) (sym a.3) (omega (arith, one))))
 
     may_be_taken : can_take P (bags i) (modes i) items ≡ true
     may_be_taken = and_from (has_room P (bags i) items) (not (names_peeked items.tokens (peeked_of (modes i)))) (room_for P items (bags i) few) (ap not (not_peeked (modes i).cq refl))
@@ -282,36 +302,37 @@ module _ (P : Program) (made : IsProgram P) (S : Stand) (edge : HasEdge P S) (w 
   if_keeps (Take pool k) q a b = let items : Items = items_at (lists_of P i) k in take_keeps pool items (items_of P made i k) (as_passed (take_effect P (bags i) (modes i) items) (λ c n. Leads S i c n t.variables (t.place + 1)) a) (b tt)
   if_keeps Any q a b = choice_keeps (is_choice r) (a tt) (b tt)
 
-  -- an arm of a peek
-  arm_keeps : (pe : Bool) (s x : Peeked) (k : ℕ) (vars : List ℤ) → (modes i).cq ≡ Some s → FrontFits pe w.completions x → Leads S i (bags i) (with_peeked x (modes i)) vars k → WellOwned P S (put P (with_locks w w.controls.holders pe) i k vars)
-  arm_keeps pe s x k vars e f l = goes _ _ _ _ _ (sees P S w bags modes i o pe s x e f) l
+  -- an arm of a peek, before which the front isn't got
+  module _ (s : Peeked) (e : (modes i).cq ≡ Some s) (n : is_reaped w.controls.look ≡ false) where
+    arm_keeps : (look : Look) (x : Peeked) (k : ℕ) (vars : List ℤ) → is_reaped look ≡ false → FrontFits look w.completions x → Leads S i (bags i) (with_peeked x (modes i)) vars k → WellOwned P S (put P (with_locks w w.controls.holders look) i k vars)
+    arm_keeps look x k vars m f l = goes _ _ _ _ _ (sees P S w bags modes i o look s x e n m f) l
 
-  peek_keeps : (cs : List Completion) (s : Peeked) (x : ℕ) → w.completions ≡ cs → (modes i).cq ≡ Some s
-      → ((u : ℕ) (v : ℤ) → (1 ≤ bags i (TokenOf u)) ⊎ (Leads S i (bags i) (with_peeked (Sees u) (modes i)) (slice_set t.variables x v) (arm_for P i t.place u + 1) ⊎ Leads S i (bags i) (with_peeked SeesOther (modes i)) (slice_set t.variables x v) (arm_for P i t.place u + 1)))
-      → ((v : ℤ) → Leads S i (bags i) (with_peeked Unseen (modes i)) (slice_set t.variables x v) (none_arm P i t.place + 1)) → Keeps P S w.controls i (Some w) (peeks P w.controls i t x (front_of cs))
-  peek_keeps [] s x ec e g h = arm_keeps w.controls.peeked s Unseen _ _ e tt (h _)
-  peek_keeps (d ∷ ds) s x ec e g h = elim (g d.user_data d.res) [
-    | inl k ↦ absurd (twice P S w bags modes i t d ds o get ec (omega (arith, k)))
-    | inr k ↦ elim k [
-      | inl l ↦ arm_keeps true s (Sees d.user_data) _ _ e (refl, subst (λ cs. StartsWith d.user_data cs) (sym ec) refl) l
-      | inr l ↦ arm_keeps true s SeesOther _ _ e (refl, subst IsNonempty (sym ec) tt) l
+    peek_keeps : (cs : List Completion) (x : ℕ) → w.completions ≡ cs
+        → ((u : ℕ) (v : ℤ) → (1 ≤ bags i (TokenOf u)) ⊎ (Leads S i (bags i) (with_peeked (Sees u) (modes i)) (slice_set t.variables x v) (arm_for P i t.place u + 1) ⊎ Leads S i (bags i) (with_peeked SeesOther (modes i)) (slice_set t.variables x v) (arm_for P i t.place u + 1)))
+        → ((v : ℤ) → Leads S i (bags i) (with_peeked Unseen (modes i)) (slice_set t.variables x v) (none_arm P i t.place + 1)) → Keeps P S w.controls i (Some w) (peeks P w.controls i t x (front_of cs))
+    peek_keeps [] x ec g h = arm_keeps w.controls.look Unseen _ _ n n (h _)
+    peek_keeps (d ∷ ds) x ec g h = elim (g d.user_data d.res) [
+      | inl k ↦ absurd (twice P S w bags modes i t d ds o get n ec (omega (arith, k)))
+      | inr k ↦ elim k [
+        | inl l ↦ arm_keeps looks.Peeked (Sees d.user_data) _ _ refl (refl, subst (λ cs. StartsWith d.user_data cs) (sym ec) refl) l
+        | inr l ↦ arm_keeps looks.Peeked SeesOther _ _ refl (refl, subst IsNonempty (sym ec) tt) l
+      ]
     ]
-  ]
 
-  release_keeps : (l : Locks) → AreAmong l (locks_of (modes i)) → Meets (line_premises P [] (bags i) (modes i) (EndLock 0 l)) → Leads S i (bags i) (freed l (modes i)) t.variables (t.place + 1) → WellOwned P S (put P (with_locks w (held_by None l w.controls.holders) w.controls.peeked) i (t.place + 1) t.variables)
-  release_keeps l held h a = goes _ _ _ _ _ (frees P S w bags modes i o l held (λ e. subst (λ b. Meets (premises_of P [] true (bags i) (modes i) (release_needs b))) e h)) a
+  release_keeps : (l : Locks) → AreAmong l (locks_of (modes i)) → Meets (line_premises P [] (bags i) (modes i) (EndLock 0 l)) → Leads S i (bags i) (freed l (modes i)) t.variables (t.place + 1) → WellOwned P S (put P (with_locks w (held_by None l w.controls.holders) w.controls.look) i (t.place + 1) t.variables)
+  release_keeps l held h a = goes _ _ _ _ _ (frees P S w bags modes i o l held (brace_leaves P (bags i) (modes i) l.sq l.cq h) (brace_seen P (bags i) (modes i) l.sq l.cq h)) a
 
-  break_keeps : (l : Locks) (leaves : Bool) (k : ℕ) → AreAmong l (locks_of (modes i)) → (leaves ≡ true → is_some (modes i).cq ≡ true) → Meets (line_premises P [] (bags i) (modes i) (Break 0 l false)) → Leads S i (bags i) (freed l (with_peeked Unseen (modes i))) t.variables k → WellOwned P S (put P (with_locks w (held_by None l w.controls.holders) (if leaves then false else w.controls.peeked)) i k t.variables)
-  break_keeps l leaves k held arm h a = goes _ _ _ _ _ (breaks_out P S w bags modes i o l leaves held arm (λ e. subst (λ b. Meets (premises_of P [] true (bags i) (modes i) (leave_needs b))) e h)) a
+  break_keeps : (l : Locks) (leaves : Bool) (k : ℕ) → AreAmong l (locks_of (modes i)) → (leaves ≡ true → is_some (modes i).cq ≡ true) → Meets (line_premises P [] (bags i) (modes i) (Break 0 l false)) → Leads S i (bags i) (freed l (with_peeked Unseen (modes i))) t.variables k → WellOwned P S (put P (with_locks w (held_by None l w.controls.holders) (if leaves then looks.Unseen else w.controls.look)) i k t.variables)
+  break_keeps l leaves k held arm h a = goes _ _ _ _ _ (breaks_out P S w bags modes i o (break_seen P (bags i) (modes i) l.sq h) l leaves held arm (break_leaves P (bags i) (modes i) l.sq h)) a
 
   pub line_keeps : (s : Stmt) → EdgeAt P S i (bags i) (modes i) t.variables t.place (Some s) → Keeps P S w.controls i (in_rings w t r s) (acts P w.controls i t s (stmt_answer w r s))
   line_keeps (EndLock p l) h = release_keeps l h.0 h.1 h.2
   line_keeps (EndLoop p k) h = goes _ _ _ _ _ still h
   line_keeps (Put pool k) h = let items : Items = items_at (lists_of P i) k in put_keeps pool items (put_covered P items (bags i) (modes i) pool h.0) h.1
-  line_keeps (Do op) h = op_keeps P S edge w bags modes i t r o get op h
+  line_keeps (Do op) h = op_keeps P made S edge w bags modes i t r o get op h
   line_keeps (Lock l) h = lock_keeps l h
   line_keeps (If test) h = if_keeps test h.0 h.1 h.2
-  line_keeps (Peek x) h = let s = held_of (modes i).cq (asks_lock (modes i).cq _ h.0) in peek_keeps w.completions s.0 x refl s.1 h.1 h.2
+  line_keeps (Peek x) h = let s = called (modes i).cq _ h.0 in peek_keeps s.known s.is (front_open P S w bags modes i o s.known s.is (s.asked 20)) w.completions x refl h.1 h.2
   line_keeps (Loop k) h = goes _ _ _ _ _ still h
   line_keeps (Break p releases leaves) h = break_keeps releases leaves (end_at P i p + 1) h.0 h.1 h.2 h.3
   line_keeps _ h = tt

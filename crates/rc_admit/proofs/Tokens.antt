@@ -13,14 +13,16 @@ use Rattle.rc_lang.specs.declared.request.Request.{Request}
 use Rattle.rc_lang.specs.Program.{Program, Thread, token_place}
 use Rattle.rc_rules.specs.declared.mode.Mode.{Mode}
 use Rattle.rc_rules.specs.Labellings.{headers_bag}
-use Rattle.rc_rules.specs.Rules.{can_queue, kind_at, kind_in, kind_of}
+use Rattle.rc_rules.specs.Kinds.{kinds_at, kinds_of, token_at}
+use Rattle.rc_rules.specs.Room.{can_queue}
 use Rattle.rc_split.specs.Bags.{Part, TokenOf, Credit, credits_given, lacking, token_bag}
 use Rattle.rc_split.proofs.PoolBags.{same_or_not}
 use Rattle.rc_world.specs.Faults.{count_of}
 use Rattle.rc_world.specs.Machine.{World}
 use Rattle.rc_world.proofs.Lists.{any_at}
 use Rattle.rc_admit.proofs.Lists.{Each, sum_over}
-use Rattle.rc_admit.proofs.Owned.{HasKind, Owned, Stand, bound_given, bound_one, owns, unheld}
+use Rattle.rc_admit.proofs.RequestKinds.{HasKind, IsAmong, owns}
+use Rattle.rc_admit.proofs.Owned.{Owned, Stand, bound_given, bound_one, unheld}
 use Rattle.rc_admit.proofs.Rule.{can_queue_by}
 
 abbrev one_if : Bool → ℕ
@@ -39,15 +41,15 @@ count_most P u (r ∷ rs) = let h : count_of u rs ≤ sum_over (owns P (TokenOf 
 abbrev is_token : ℕ → Token → Bool
 is_token u t = nat_eq t.user_data u
 
-token_there : (x : Option Token) (kind : TokenKind) → kind_in x ≡ Some kind → (t : Token) × (x ≡ Some t)
-token_there None kind e = absurd (cc)
-token_there (Some t) kind e = (t, refl)
+token_there : (x : Option Token) (kind : TokenKind) → IsAmong kind (kinds_at x) → (t : Token) × (x ≡ Some t)
+token_there None kind h = absurd h
+token_there (Some t) kind h = (t, refl)
 
-declared : (P : Program) (u : ℕ) (kind : TokenKind) → kind_of P u ≡ Some kind → list_any (is_token u) P.tokens ≡ true
+declared : (P : Program) (u : ℕ) (kind : TokenKind) → IsAmong kind (kinds_of P u) → list_any (is_token u) P.tokens ≡ true
 declared P u kind e = go (token_place P.tokens u) refl e
   where
-    go : (x : Option ℕ) → token_place P.tokens u ≡ x → kind_at P.tokens x ≡ Some kind → list_any (is_token u) P.tokens ≡ true
-    go None f h = absurd (cc)
+    go : (x : Option ℕ) → token_place P.tokens u ≡ x → IsAmong kind (kinds_at (token_at P.tokens x)) → list_any (is_token u) P.tokens ≡ true
+    go None f h = absurd h
     go (Some j) f h =
         let t = token_there (slice_get P.tokens j) kind h in
         let at = position-Some (is_token u) P.tokens j t.0 f in
@@ -61,7 +63,7 @@ none_undeclared P u (r ∷ rs) a e =
     omega (arith, one, rest)
   where
     other : nat_eq r.user_data u ≡ true → ⊥
-    other t = let d : list_any (is_token u) P.tokens ≡ true = subst (λ v. list_any (is_token v) P.tokens ≡ true) (eqb-true r.user_data u t) (declared P r.user_data a.0.0 a.0.1) in cc
+    other t = let d : list_any (is_token u) P.tokens ≡ true = subst (λ v. list_any (is_token v) P.tokens ≡ true) (eqb-true r.user_data u t) (declared P r.user_data a.0.kind a.0.among) in cc
 
 -- ---- tokens that a bag hasn't
 

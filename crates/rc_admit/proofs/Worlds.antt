@@ -1,12 +1,12 @@
 -- What a world without a fault is like, and so each world of a run of a safe program.
 use Rattle.std.proofs.Common.{◌≡◌, ℕ, zero, suc, ◌+◌, ◌-◌, ◌<◌, ◌≤◌, ◌⊎◌, Bool, true, false, ◌&&◌, ◌||◌, List, [], ◌∷◌, length, drop, Option, Some, None, refl, sym, ap, ◌∙◌, subst, inl, inr, arith, length-drop}
 use Rattle.std.proofs.lemmas.Option.{slice_get_within}
-use Rattle.std.proofs.lemmas.Bool.{and_from, and_parts, cases_order, eq-eqb, eqb-true, leb-false, leb-true, ltb-false, not-false, or_left, or_parts, or_right}
+use Rattle.std.proofs.lemmas.Bool.{and_from, cases_order, eq-eqb, eqb-true, leb-false, leb-true, ltb-false, not-false, or_left, or_parts, or_right}
 use Rattle.std.proofs.lemmas.List.Elements.{All-from_get_or}
 use Rattle.std.specs.List.{list_any}
-use Rattle.std.specs.Prelude.{nat_eq, nat_le, nat_lt, not, slice_get, ℤ, if◌then◌else◌}
+use Rattle.std.specs.Prelude.{nat_eq, nat_le, nat_lt, not, slice_get}
 use Rattle.rc_lang.specs.declared.lines.Op.{Op}
-use Rattle.rc_lang.specs.declared.lines.Op.TheVariants.{Load, Store, Fill, GetSqe, PrepRead, PrepWrite, PrepFsync, PrepNop, PrepOther, SetData64, Submit, SubmitAndWait, CqeSeen}
+use Rattle.rc_lang.specs.declared.lines.Op.TheVariants.{Load, Store, Fill, GetSqe, PrepRead, PrepWrite, PrepFsync, PrepNop, PrepOther, SetData64, Submit, SubmitAndWait, CqeGetData64, CqeSeen}
 use Rattle.rc_lang.specs.declared.lines.Stmt.{Stmt}
 use Rattle.rc_lang.specs.declared.lines.Stmt.TheVariants.{Do, Put, EndLock, If, Peek, Break}
 use Rattle.rc_lang.specs.declared.lines.Test.TheVariants.{ReadyZero, SpaceAtLeast, Take}
@@ -16,17 +16,15 @@ use Rattle.rc_lang.specs.Program.{Items, bytes_at, items_at, lists_of, shares_at
 use Rattle.rc_split.specs.Bags.{Part, ShareOf, TokenOf, Credit}
 use Rattle.rc_split.specs.Pools.{all_pooled, is_there, is_too_many, overfills}
 use Rattle.rc_split.proofs.Named.{no_share, none_at as none_in}
-use Rattle.rc_world.specs.declared.event.Completion.{Completion}
-use Rattle.rc_world.specs.declared.event.Event.{Event}
 use Rattle.rc_world.specs.declared.fault.FaultKind.{FaultKind}
-use Rattle.rc_world.specs.declared.fault.FaultKind.TheVariants.{WriteOfPending, ReadOfFilling, KernelClash, ThreadRace, RingFull, Overflow, AmbiguousData, UnknownReap, NoLock, RawEntry, OutOfBuffer, DoublePut}
+use Rattle.rc_world.specs.declared.fault.FaultKind.TheVariants.{WriteOfPending, ReadOfFilling, KernelClash, ThreadRace, RingFull, Overflow, AmbiguousData, NoLock, RawEntry, OutOfBuffer, DoublePut}
 use Rattle.rc_world.specs.declared.world.Slot.{Slot}
 use Rattle.rc_world.specs.declared.world.Slot.TheVariants.{Closed, Vacant, Prepared}
-use Rattle.rc_world.specs.Controls.{Controls, Standing, controls_step, next_line}
-use Rattle.rc_world.specs.Faults.{Access, access_at, access_by, access_of, clash, clashes, clashes_with, conflicts, count_of, fault_of, front_is_one, has_buffer, has_cq, has_data, has_fault, has_sq, in_kernel, is_closed, is_cq_call, is_holder, is_in_flight, is_prepared, is_raw_at, is_sq_call, is_vacant, may_put, names, overflows, races_from, reads_into}
-use Rattle.rc_world.specs.Machine.{Pending, World, in_rings, is_read, reaps_front, stmt_answer, thread_step, thread_step_at, used_entries, with_controls, without_data}
+use Rattle.rc_world.specs.Controls.{Standing, next_line}
+use Rattle.rc_world.specs.Faults.{Access, access_at, access_by, access_of, clash, clashes, clashes_with, conflicts, fault_of, has_buffer, has_cq, has_data, has_fault, has_sq, in_kernel, is_closed, is_cq_call, is_holder, is_in_flight, is_prepared, is_raw_at, is_sq_call, is_vacant, may_put, names, overflows, races_from, reads_into}
+use Rattle.rc_world.specs.Machine.{Pending, World, is_read, used_entries}
 use Rattle.rc_world.proofs.LawFaultless.{none_at, none_in_kernel, none_of_kind}
-use Rattle.rc_admit.specs.Worlds.{DataIsFresh, CallsUnderLock, EachReapsOne, EntrySuits, Fills, FindsEntry, HasRoom, IsCqCall, IsNext, IsPending, IsSqCall, Names, NoKernelClash, NoReadOfFilling, NoThreadRace, NothingPutTwice, NoWriteOfPending, OfSafeWorlds, ReadsBuffer, StaysWithinBuffers, Suits, WritesBuffer}
+use Rattle.rc_admit.specs.Worlds.{DataIsFresh, CallsUnderLock, EntrySuits, Fills, FindsEntry, HasRoom, IsCqCall, IsNext, IsPending, IsSqCall, Names, NoKernelClash, NoReadOfFilling, NoThreadRace, NothingPutTwice, NoWriteOfPending, OfSafeWorlds, ReadsBuffer, StaysWithinBuffers, Suits, WritesBuffer}
 use Rattle.rc_admit.proofs.Accesses.{next_is}
 use Rattle.rc_world.proofs.Lists.{any_at}
 use Rattle.rc_world.proofs.LawGoes.{and_false}
@@ -84,6 +82,7 @@ calls_sq _ c = absurd c
 
 calls_cq : (s : Stmt) → IsCqCall s → is_cq_call s ≡ true
 calls_cq (Peek x) c = refl
+calls_cq (Do CqeGetData64) c = refl
 calls_cq (Do CqeSeen) c = refl
 calls_cq (If (Take None k)) c = refl
 calls_cq (Put None k) c = refl
@@ -124,25 +123,8 @@ race_at w a (t ∷ ts) m (suc k) e lt =
     let s : m + suc k ≡ (m + 1) + k = omega arith in
     ap (λ n. conflicts a (access_at (next_line w.program w.controls n))) s ∙ race_at w a ts (m + 1) k (or_parts (conflicts a (access_at (next_line w.program w.controls m))) (races_from w a (m + 1) ts) e).1 (omega arith)
 
--- ---- what a step of cqe_seen leaves
-
-abbrev one_if : Bool → ℕ
-one_if b = if b then 1 else 0
-
-count_less : (u : ℕ) (rs : List Request) → count_of u rs ≡ 1 → count_of u (without_data u rs) ≡ 0
-count_less u [] e = absurd (cc)
-count_less u (r ∷ rs) e = go (λ h. count_less u rs h) (nat_eq r.user_data u) refl e
-  where
-    go : (count_of u rs ≡ 1 → count_of u (without_data u rs) ≡ 0) → (b : Bool) → nat_eq r.user_data u ≡ b → one_if b + count_of u rs ≡ 1 → count_of u (if b then rs else r ∷ without_data u rs) ≡ 0
-    go on true q e = let h : 1 + count_of u rs ≡ 1 = e in omega arith
-    go on false q e =
-        let h : 0 + count_of u rs ≡ 1 = e in
-        let x : count_of u (without_data u rs) ≡ 0 = on (omega arith) in
-        let z : one_if (nat_eq r.user_data u) ≡ 0 = ap one_if q in
-        omega (arith, x, z)
-
 module _ (w : World) (none : fault_of w ≡ None) where
-  at : (kind : FaultKind) (i : ℕ) (s : Stmt) → IsNext w i s → has_fault w kind i s ≡ false
+  pub at : (kind : FaultKind) (i : ℕ) (s : Stmt) → IsNext w i s → has_fault w kind i s ≡ false
   at kind i s n = subst (λ x. has_fault w kind i x ≡ false) n.2 (none_at w kind (none_of_kind w none kind) i n.0 n.1)
 
   in_the_kernel : (kind : FaultKind) → in_kernel w kind ≡ false
@@ -243,7 +225,7 @@ module _ (w : World) (none : fault_of w ≡ None) where
   under_sq : (i : ℕ) (s : Stmt) → IsNext w i s → IsSqCall s → has_sq w i ≡ true
   under_sq i s n c = not-false (has_sq w i) (and_false (is_sq_call s) (not (has_sq w i)) (none_lacking i s n).0 (calls_sq s c))
 
-  under_cq : (i : ℕ) (s : Stmt) → IsNext w i s → IsCqCall s → has_cq w i ≡ true
+  pub under_cq : (i : ℕ) (s : Stmt) → IsNext w i s → IsCqCall s → has_cq w i ≡ true
   under_cq i s n c = not-false (has_cq w i) (and_false (is_cq_call s) (not (has_cq w i)) (none_lacking i s n).1 (calls_cq s c))
 
   pub calls_under_lock : CallsUnderLock w
@@ -253,7 +235,7 @@ module _ (w : World) (none : fault_of w ≡ None) where
   of_sq : (i : ℕ) (b : Bool) → has_sq w i ≡ true → (has_sq w i && b) ≡ false → b ≡ false
   of_sq i b h e = and_false (has_sq w i) b e h
 
-  of_cq : (i : ℕ) (b : Bool) → has_cq w i ≡ true → (has_cq w i && b) ≡ false → b ≡ false
+  pub of_cq : (i : ℕ) (b : Bool) → has_cq w i ≡ true → (has_cq w i && b) ≡ false → b ≡ false
   of_cq i b h e = and_false (has_cq w i) b e h
 
   pub finds_entry : FindsEntry w
@@ -307,44 +289,6 @@ module _ (w : World) (none : fault_of w ≡ None) where
           | inr q ↦ let t = any_at (has_data u) w.completed k r q mine in let f = two.1 in absurd (cc)
         ]
       ]
-
-  -- the front completion, where the front is that of one request
-  front_of_one : (cs : List Completion) → front_is_one w cs ≡ true → (c : Completion) × (ds : List Completion) × (cs ≡ c ∷ ds) × (count_of c.user_data w.completed ≡ 1)
-  front_of_one [] e = absurd (cc)
-  front_of_one (c ∷ ds) e = (c, ds, refl, eqb-true (count_of c.user_data w.completed) 1 e)
-
-  -- what is after a step of cqe_seen
-  abbrev Leaves : Completion → List Completion → Option (Event × World) → Type 0
-  Leaves c ds None = Unit {0}
-  Leaves c ds (Some x) = (count_of c.user_data x.1.completed ≡ 0) × (x.1.completions ≡ ds)
-
-  leaves : (i : ℕ) (r : ℤ) (c : Completion) (ds : List Completion) → w.completions ≡ c ∷ ds → count_of c.user_data w.completed ≡ 1 → IsNext w i (Do CqeSeen) → Leaves c ds (thread_step w i r)
-  leaves i r c ds e one n =
-      let t = next_is w i n.0 n.1 in
-      subst (λ x. Leaves c ds (thread_step_at w i r x (next_line w.program w.controls i))) (sym t.stands)
-      (subst (λ y. Leaves c ds (thread_step_at w i r (Some t.thread) y)) (sym n.1)
-      (subst (λ s. Leaves c ds (with_controls (in_rings w t.thread r s) (controls_step w.program w.controls i (stmt_answer w r s)))) (sym n.2) (go t.thread (controls_step w.program w.controls i (stmt_answer w r (Do CqeSeen))))))
-    where
-      after : (x : Option (Event × Controls)) → Leaves c ds (with_controls (Some (record w { completions = ds; completed = without_data c.user_data w.completed })) x)
-      after None = tt
-      after (Some x) = (count_less c.user_data w.completed one, refl)
-
-      go : (t : Standing) (x : Option (Event × Controls)) → Leaves c ds (with_controls (in_rings w t r (Do CqeSeen)) x)
-      go t x = subst (λ cs. Leaves c ds (with_controls (reaps_front w cs) x)) (sym e) (after x)
-
-  pub each_reaps_one : EachReapsOne w
-  each_reaps_one i n =
-      let h = under_cq i (Do CqeSeen) n tt in
-      let both = and_parts w.controls.peeked (front_is_one w w.completions) (not-false (w.controls.peeked && front_is_one w w.completions) (of_cq i (not (w.controls.peeked && front_is_one w w.completions)) h (at UnknownReap i (Do CqeSeen) n))) in
-      let f = front_of_one w.completions both.1 in
-      record {
-        front = f.0;
-        others = f.1;
-        completions = f.2;
-        peeked = both.0;
-        one = f.3;
-        gone = λ r e after s. subst (λ x. Leaves f.0 f.1 x) s (leaves i r f.0 f.1 f.2 f.3 n);
-      }
 
   -- ---- pools
 

@@ -1,17 +1,20 @@
 -- What it means that a program is safe: what holds of each world of its runs, in the terms of io_uring(7).
-use Rattle.std.specs.Prelude.{ℕ, ◌≡◌, ◌≢◌, ◌⊎◌, ◌<◌, ◌≤◌, ◌+◌, true, List, ◌∷◌, length, map, Option, Some, None, slice_get, ℤ, All}
+use Rattle.std.specs.Prelude.{ℕ, ◌≡◌, ◌≢◌, ◌⊎◌, ◌<◌, ◌≤◌, ◌+◌, true, List, ◌∷◌, drop, length, map, Option, Some, None, slice_get, ℤ, All}
 use Rattle.rc_lang.specs.declared.lines.Line.{Line}
 use Rattle.rc_lang.specs.declared.lines.Op.{Op}
-use Rattle.rc_lang.specs.declared.lines.Op.TheVariants.{Load, Store, Fill, GetSqe, PrepRead, PrepWrite, PrepFsync, PrepNop, PrepOther, SetData64, Submit, SubmitAndWait, CqeSeen}
+use Rattle.rc_lang.specs.declared.lines.Op.TheVariants.{Load, Store, Fill, GetSqe, PrepRead, PrepWrite, PrepFsync, PrepNop, PrepOther, SetData64, Submit, SubmitAndWait, CqeGetData64, CqeSeen}
 use Rattle.rc_lang.specs.declared.lines.Stmt.{Stmt}
 use Rattle.rc_lang.specs.declared.lines.Stmt.TheVariants.{Do, Put, EndLock, If, Peek, Break}
 use Rattle.rc_lang.specs.declared.lines.Test.TheVariants.{ReadyZero, SpaceAtLeast, Take}
 use Rattle.rc_lang.specs.declared.request.Kind.TheVariants.{Read, Write}
 use Rattle.rc_lang.specs.declared.request.Request.{Request}
 use Rattle.rc_lang.specs.declared.program.Share.{Share}
-use Rattle.rc_lang.specs.Program.{Items, Program, bytes_at, items_at, lists_of, shares_at}
+use Rattle.rc_lang.specs.Program.{IsProgram, Items, Program, bytes_at, items_at, lines_of, lists_of, shares_at, stmt_at}
+use Rattle.rc_rules.specs.Labellings.{Accepts}
 use Rattle.rc_split.specs.Bags.{ShareOf, TokenOf, Credit}
 use Rattle.rc_split.specs.Pools.{Pools, all_pooled}
+use Rattle.rc_world.specs.declared.controls.Look.{Look}
+use Rattle.rc_world.specs.declared.controls.Look.TheVariants.{Unseen, Peeked, Got}
 use Rattle.rc_world.specs.declared.event.Completion.{Completion}
 use Rattle.rc_world.specs.declared.event.Event.{Event}
 use Rattle.rc_world.specs.declared.world.Slot.{Slot}
@@ -24,6 +27,18 @@ use Rattle.rc_world.specs.Runs.{IsRun, IsSafe}
 -- It holds of each world of each run of a program that is safe.
 abbrev pub OfSafeWorlds : (World → Type 0) → Type 0
 OfSafeWorlds F = (P : Program) → IsSafe P → (events : List Event) (w : World) → IsRun (start_world P) events w → F w
+
+-- It holds of each world of each run of an accepted program.
+abbrev pub OfAcceptedWorlds : (World → Type 0) → Type 0
+OfAcceptedWorlds F = (P : Program) → IsProgram P → Accepts P → (events : List Event) (w : World) → IsRun (start_world P) events w → F w
+
+-- No line of the program gets a completion's user data.
+abbrev pub GetsNoData : Program → Type 0
+GetsNoData P = (i k : ℕ) → stmt_at (lines_of P i) k ≢ Some (Do CqeGetData64)
+
+-- It holds of each world of each run of such a program.
+abbrev pub OfWorldsWithoutGets : (World → Type 0) → Type 0
+OfWorldsWithoutGets F = (P : Program) → GetsNoData P → (events : List Event) (w : World) → IsRun (start_world P) events w → F w
 
 -- The statement is the thread's next.
 abbrev pub IsNext : World → ℕ → Stmt → Type 0
@@ -102,9 +117,11 @@ IsSqCall (If (Take None k)) = Unit {0}
 IsSqCall (Put None k) = Unit {0}
 IsSqCall _ = ⊥
 
--- Those of the completion side: io_uring_peek_cqe(3) and io_uring_cqe_seen(3), and those on the pool without a name.
+-- Those of the completion side: io_uring_peek_cqe(3), io_uring_cqe_get_data64(3) and io_uring_cqe_seen(3), and those on the
+-- pool without a name.
 abbrev pub IsCqCall : Stmt → Type 0
 IsCqCall (Peek x) = Unit {0}
+IsCqCall (Do CqeGetData64) = Unit {0}
 IsCqCall (Do CqeSeen) = Unit {0}
 IsCqCall (If (Take None k)) = Unit {0}
 IsCqCall (Put None k) = Unit {0}
@@ -153,22 +170,51 @@ in_flight_with u w = count_of u w.queued + count_of u (map (λ (x : Pending). x.
 abbrev pub DataIsOne : World → Type 0
 DataIsOne w = (u : ℕ) → in_flight_with u w ≤ 1
 
--- The completions in their ring are those of the requests that are completed and not reaped, one by one.
-abbrev pub CompletionsAgree : World → Type 0
-CompletionsAgree w = map (λ (c : Completion). c.user_data) w.completions ≡ map (λ (r : Request). r.user_data) w.completed
+-- the completions whose requests aren't reaped: all but the front one, where that is got
+abbrev pub unreaped : Look → List Completion → List Completion
+unreaped Unseen completions = completions
+unreaped Peeked completions = completions
+unreaped Got completions = drop 1 completions
 
--- At each io_uring_cqe_seen(3) a completion is at the front, and it was looked at. Exactly one request that is completed
--- and not reaped has its user data, and after the step none has: the completion is gone with it.
-pub record ReapsOne (w : World) (i : ℕ) : Type 0 where
+-- They are those of the requests that are completed and not reaped, one by one.
+abbrev pub CompletionsAgree : World → Type 0
+CompletionsAgree w = map (λ (c : Completion). c.user_data) (unreaped w.controls.look w.completions) ≡ map (λ (r : Request). r.user_data) w.completed
+
+-- The calls that reap the request of the front completion, where that isn't got: io_uring_cqe_get_data64(3), and
+-- io_uring_cqe_seen(3).
+abbrev pub IsReap : Op → Type 0
+IsReap CqeGetData64 = Unit {0}
+IsReap CqeSeen = Unit {0}
+IsReap _ = ⊥
+
+-- what is in the completion ring behind one of them: io_uring_cqe_seen(3) takes the front completion away
+abbrev pub left_by : Op → Completion → List Completion → List Completion
+left_by CqeSeen front others = others
+left_by _ front others = front ∷ others
+
+-- A completion is at the front, and it was looked at. Exactly one request that is completed and not reaped has its user
+-- data, and after the step none has.
+pub record ReapsOne (w : World) (i : ℕ) (op : Op) : Type 0 where
   pub front : Completion
   pub others : List Completion
   pub completions : w.completions ≡ front ∷ others
-  pub peeked : w.controls.peeked ≡ true
+  pub peeked : w.controls.look ≡ Peeked
   pub one : count_of front.user_data w.completed ≡ 1
-  pub gone : (r : ℤ) (e : Event) (after : World) → thread_step w i r ≡ Some (e, after) → (count_of front.user_data after.completed ≡ 0) × (after.completions ≡ others)
+  pub gone : (r : ℤ) (e : Event) (after : World) → thread_step w i r ≡ Some (e, after) → (count_of front.user_data after.completed ≡ 0) × (after.completions ≡ left_by op front others)
 
+-- So it is at each of them, where the front completion isn't got.
 abbrev pub EachReapsOne : World → Type 0
-EachReapsOne w = (i : ℕ) → IsNext w i (Do CqeSeen) → ReapsOne w i
+EachReapsOne w = (i : ℕ) (op : Op) → IsReap op → IsNext w i (Do op) → w.controls.look ≢ Got → ReapsOne w i op
+
+-- Where it is got, its request was reaped, and the step reaps none.
+pub record ReapsNone (w : World) (i : ℕ) (op : Op) : Type 0 where
+  pub front : Completion
+  pub others : List Completion
+  pub completions : w.completions ≡ front ∷ others
+  pub same : (r : ℤ) (e : Event) (after : World) → thread_step w i r ≡ Some (e, after) → (after.completed ≡ w.completed) × (after.completions ≡ left_by op front others)
+
+abbrev pub NoneReapedTwice : World → Type 0
+NoneReapedTwice w = (i : ℕ) (op : Op) → IsReap op → IsNext w i (Do op) → w.controls.look ≡ Got → ReapsNone w i op
 
 -- ---- the pools
 

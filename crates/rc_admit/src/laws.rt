@@ -24,9 +24,13 @@ pub fn accepted_is_weakly_safe()
 ///   holder of the submission side does next finds the open entry at the stage that it wants; a pending request finds
 ///   room in the completion ring;
 /// - each `io_uring_sqe_set_data64(3)` gives user data that no request in flight has, so that no two of them have the
-///   same, and the completions in their ring are those of the completed requests, in their order;
-/// - at each `io_uring_cqe_seen(3)` the front completion was looked at, exactly one completed request has its user
-///   data, and after that step none has;
+///   same;
+/// - the completions in their ring, but for a front one that is got, are those of the completed requests, in their order:
+///   so it is in an accepted program, and in any program without `cqe_get_data64`. A refused one may be safe and leave
+///   more there that are got;
+/// - at each `io_uring_cqe_seen(3)` and `io_uring_cqe_get_data64(3)` of a front completion that isn't got, that was looked
+///   at, exactly one completed request has its user data, and after that step none has; of one that is got no request is
+///   reaped again;
 /// - nothing is put into a pool that is in one already, and no call on the pool without a name is made without both
 ///   locks.
 pub fn safe_worlds()
@@ -41,7 +45,9 @@ pub fn safe_worlds()
     ensures has_room { worlds.OfSafeWorlds worlds.HasRoom }
     ensures data_is_fresh { worlds.OfSafeWorlds worlds.DataIsFresh }
     ensures data_is_one { worlds.OfSafeWorlds worlds.DataIsOne }
-    ensures completions_agree { worlds.OfSafeWorlds worlds.CompletionsAgree }
+    ensures completions_agree { worlds.OfAcceptedWorlds worlds.CompletionsAgree }
+    ensures agree_without_gets { worlds.OfWorldsWithoutGets worlds.CompletionsAgree }
     ensures reaps_one { worlds.OfSafeWorlds worlds.EachReapsOne }
+    ensures none_twice { worlds.OfSafeWorlds worlds.NoneReapedTwice }
     ensures put_once { worlds.OfSafeWorlds worlds.NothingPutTwice }
 {}

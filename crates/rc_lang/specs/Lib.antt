@@ -1,4 +1,5 @@
 pub mod Comparisons
+pub mod Kinds
 pub mod Locks
 pub mod Names
 pub mod Nesting

@@ -18,6 +18,7 @@ use Rattle.rc_lang.specs.declared.program.Share.{Share}
 use Rattle.rc_lang.specs.declared.program.Token.{Token}
 use Rattle.rc_lang.specs.declared.program.TokenKind.{TokenKind}
 use Rattle.rc_lang.specs.declared.program.TokenKind.TheVariants.{Read, Write}
+use Rattle.rc_lang.specs.Kinds.{is_one_kind, kinds_in}
 use Rattle.rc_lang.specs.Locks.{both_locks, is_some_lock}
 use Rattle.rc_lang.specs.Names.{is_name}
 use Rattle.rc_lang.specs.Nesting.{IsNested, blocks_at, locks_in}
@@ -343,7 +344,8 @@ pub record IsProgram (program : Program) : Type 0 where
   pub buffers : All IsBuffer program.buffers
   pub distinct_buffers : IsDistinct bytes_eq (map (λ (b : Buffer). b.name) program.buffers)
   pub few_tokens : length program.tokens ≤ 256
-  pub tokens : All (λ (t : Token). IsTokenKind program t.kind) program.tokens
+  pub tokens : All (λ (t : Token). All (IsTokenKind program) (kinds_in t)) program.tokens
+  pub distinct_kinds : All (λ (t : Token). IsDistinct is_one_kind (kinds_in t)) program.tokens
   pub distinct_tokens : IsDistinct nat_eq (map (λ (t : Token). t.user_data) program.tokens)
   pub few_pools : length program.pools ≤ 16
   pub pools : All (λ n. is_name n ≡ true) program.pools

@@ -97,6 +97,9 @@ pub enum Op {
     Submit(usize),
     /// `x = submit_and_wait n`: the same, and waits for n completions, 0 to 2048 (`io_uring_submit_and_wait(3)`).
     SubmitAndWait(usize, u32),
+    /// `cqe_get_data64`: gets the user data of the front completion, whose request is reaped with that
+    /// (`io_uring_cqe_get_data64(3)`). The entry stays until it is seen.
+    CqeGetData64,
     /// `cqe_seen`: takes the front completion away (`io_uring_cqe_seen(3)`).
     CqeSeen,
 }

@@ -54,11 +54,13 @@ pub enum TokenKind {
     Other,
 }
 
-/// A token: the user data of a request, and what that request is.
+/// A token: the user data of a request, and what that request may be: of the kind that its line says first, or of one of
+/// those after `or`, no two of which are of one word and one buffer.
 #[derive(Clone, Copy)]
 pub struct Token {
     pub user_data: u64,
     pub kind: TokenKind,
+    pub others: [Option<TokenKind>; 3],
 }
 
 /// What a program declares before its threads.

@@ -1,12 +1,15 @@
 -- What the sentences keep of a sheet, line by line, and that what was read of a model without a fault is a program.
-use Rattle.std.proofs.Common.{◌≡◌, ℕ, ◌+◌, ◌<◌, Bool, true, false, cond, not, ◌&&◌, ◌||◌, ◌==◌, max, nat_le, List, [], ◌∷◌, ◌++◌, length, length-append, take, Option, Some, None, Result, Ok, Err, is_none, unwrap_or, slice_get, refl, sym, ap, ◌∙◌, subst, ◌⊎◌, inl, inr, arith}
+use Rattle.std.proofs.Common.{◌≡◌, ℕ, ◌+◌, ◌<◌, Bool, true, false, cond, not, ◌&&◌, ◌||◌, ◌==◌, max, nat_le, List, [], ◌∷◌, ◌++◌, length, length-append, take, Option, Some, None, Result, Ok, Err, is_none, unwrap_or, slice_get, refl, sym, ap, ◌∙◌, subst, ◌⊎◌, inl, inr, All, arith}
 use Rattle.std.specs.List.{list_any}
 use Rattle.std.proofs.lemmas.Bool.{and_cases, and_parts, leb-false, not-false, or_parts}
+use Rattle.std.proofs.lemmas.List.Elements.{All-weaker}
 use Rattle.rc_lang.specs.declared.lines.Block.{Block}
 use Rattle.rc_lang.specs.declared.lines.Block.TheVariants.{InIf, InPeek}
 use Rattle.rc_lang.specs.declared.lines.Test.TheVariants as test
+use Rattle.rc_lang.specs.declared.program.Token.{Token}
 use Rattle.rc_lang.specs.declared.program.TokenKind.{TokenKind}
 use Rattle.rc_lang.specs.declared.program.TokenKind.TheVariants as kind
+use Rattle.rc_lang.specs.Kinds.{kinds_in}
 use Rattle.rc_lang.specs.Nesting.{Way, directly_in_peek, in_peek, innermost, is_some_peek, locks_in, way_out}
 use Rattle.rc_lang.specs.Program.{Buffer as BufferOf, IsOfPool, IsProgram, Items, IsTokenKind, Program, Thread as ThreadOf, line_numbers}
 use Rattle.rc_read.specs.declared.parts.Region.{Region}
@@ -20,7 +23,7 @@ use Rattle.rc_read.specs.declared.values.Item.{Item}
 use Rattle.rc_read.specs.Adds.{added, block_place, counted, form_in, held, held_in_loop, said, second_of, stmt_in, values, with_line, with_words}
 use Rattle.rc_read.specs.Answer.{at_end, judged, lacks_head, on_line, program_in}
 use Rattle.rc_read.specs.Says.{says_by, says_of}
-use Rattle.rc_read.specs.Sentences.{any_queue, any_strange, bad_brace, bad_case, bad_nesting, first_true, is_first_branch, is_inside, is_too_deep, sentences, word_sentences}
+use Rattle.rc_read.specs.Sentences.{any_queue, any_strange, bad_brace, bad_case, bad_nesting, first_true, is_first_branch, is_inside, is_too_deep, repeats_kind, sentences, word_sentences}
 use Rattle.rc_read.specs.Sheets.{Sheet, empty, naming, with_names}
 use Rattle.rc_read.specs.Spots.{Spot, any_reserved, spots_by, spots_of}
 use Rattle.rc_read.specs.Stream.{IsReached}
@@ -31,7 +34,8 @@ use Rattle.rc_read.proofs.KeptDraft.{MayFollow, draft_start}
 use Rattle.rc_read.proofs.KeptForms.{AreFalse, IsRegion, are_false, few_lines, HasForm, has_form, inside, items_by, none_alone, none_else, region_is}
 use Rattle.rc_read.proofs.KeptLists.{no_queue, no_queue_before}
 use Rattle.rc_read.proofs.KeptParts.{AreThreads, RiseTo, buffers_more, files_more, no_threads, pools_in, pools_more, rise_more, rise_none, tokens_more, tokens_on}
-use Rattle.rc_read.proofs.KeptRows.{IsKind, IsTold, has_more, told}
+use Rattle.rc_read.proofs.KeptKinds.{IsKind, kinds_differ}
+use Rattle.rc_read.proofs.KeptRows.{IsTold, has_more, told}
 use Rattle.rc_read.proofs.KeptSheet.{IsKept, ThreadsAt, at, kept_brace, kept_counted, kept_named, kept_said, kept_start}
 use Rattle.rc_read.proofs.KeptSpots.{all_named, are_of}
 use Rattle.rc_read.proofs.KeptValues.{AreRight, fine_line, made}
@@ -84,8 +88,8 @@ module _ (ts : List ThreadOf) where
     declares : (t : Sheet) → s.region ≡ Declarations → t.region ≡ s.region → t.threads ≡ s.threads → ThreadsAt (made ts t) (s.count + 1) t.draft t.threads t.region
     declares t e r h = subst (λ q. ThreadsAt (made ts t) (s.count + 1) t.draft t.threads q) (sym (r ∙ e)) (h ∙ at ts (with_names s ps) lt k Declarations e)
 
-    kept_what : (what : Says) → IsTold ts s (naming s.draft ps) ws its st what → bad_brace s what ≡ false → is_too_deep s what ≡ false → bad_nesting s.draft.blocks its what ≡ false → bad_case s.draft what ≡ false → IsKept ts (counted (added (with_names s ps) ws its what))
-    kept_what (says.Version v) t b d n c = record {
+    kept_what : (what : Says) → IsTold ts s (naming s.draft ps) ws its st what → repeats_kind what ≡ false → bad_brace s what ≡ false → is_too_deep s what ≡ false → bad_nesting s.draft.blocks its what ≡ false → bad_case s.draft what ≡ false → IsKept ts (counted (added (with_names s ps) ws its what))
+    kept_what (says.Version v) t r b d n c = record {
       few_lines = omega arith;
       declared = record {
         sizes = record { version = (t.1, t.2); rings = k.declared.sizes.rings };
@@ -96,25 +100,25 @@ module _ (ts : List ThreadOf) where
       };
       threads = (at ts (with_names s ps) lt k Start (stands stand.First t.0)).0;
     }
-    kept_what (says.Ring h) t b d n c = record { few_lines = omega arith; declared = record { sizes = record { version = k.declared.sizes.version; rings = t.1 }; known_files = k.declared.known_files; known_buffers = k.declared.known_buffers; known_tokens = k.declared.known_tokens; known_pools = k.declared.known_pools }; threads = at ts (with_names s ps) lt k Second (stands stand.Second t.0) }
-    kept_what (says.File f) t b d n c = record {
+    kept_what (says.Ring h) t r b d n c = record { few_lines = omega arith; declared = record { sizes = record { version = k.declared.sizes.version; rings = t.1 }; known_files = k.declared.known_files; known_buffers = k.declared.known_buffers; known_tokens = k.declared.known_tokens; known_pools = k.declared.known_pools }; threads = at ts (with_names s ps) lt k Second (stands stand.Second t.0) }
+    kept_what (says.File f) t r b d n c = record {
       few_lines = omega arith;
       declared = record { sizes = k.declared.sizes; known_files = files_more s.files f k.declared.known_files t.1 t.2 t.3; known_buffers = k.declared.known_buffers; known_tokens = k.declared.known_tokens; known_pools = k.declared.known_pools };
       threads = declares (added (with_names s ps) ws its (says.File f)) (stands stand.Declaration t.0) refl refl;
     }
-    kept_what (says.Buffer bytes shares) t b d n c =
+    kept_what (says.Buffer bytes shares) t r b d n c =
         let buffer : BufferOf = record { name = second_of ws; bytes = bytes; shares = shares } in
         record {
           few_lines = omega arith;
           declared = record { sizes = k.declared.sizes; known_files = k.declared.known_files; known_buffers = buffers_more s.buffers buffer k.declared.known_buffers (record { name = t.4.0; bytes = t.1; shares = t.2 }) t.4.1 t.3; known_tokens = tokens_on s.buffers buffer s.tokens k.declared.known_tokens; known_pools = k.declared.known_pools };
           threads = declares (added (with_names s ps) ws its (says.Buffer bytes shares)) (stands stand.Declaration t.0) refl refl;
         }
-    kept_what (says.Token token) t b d n c = record {
+    kept_what (says.Token token) t r b d n c = record {
       few_lines = omega arith;
-      declared = record { sizes = k.declared.sizes; known_files = k.declared.known_files; known_buffers = k.declared.known_buffers; known_tokens = tokens_more s.buffers s.tokens token k.declared.known_tokens t.1 t.2 t.3; known_pools = k.declared.known_pools };
+      declared = record { sizes = k.declared.sizes; known_files = k.declared.known_files; known_buffers = k.declared.known_buffers; known_tokens = tokens_more s.buffers s.tokens token k.declared.known_tokens t.1 (kinds_differ (kinds_in token) r) t.2 t.3; known_pools = k.declared.known_pools };
       threads = declares (added (with_names s ps) ws its (says.Token token)) (stands stand.Declaration t.0) refl refl;
     }
-    kept_what says.Pool t b d n c = record {
+    kept_what says.Pool t r b d n c = record {
       few_lines = omega arith;
       declared = record {
         sizes = k.declared.sizes;
@@ -125,7 +129,7 @@ module _ (ts : List ThreadOf) where
       };
       threads = declares (added (with_names s ps) ws its says.Pool) (stands stand.Declaration t.0) refl refl;
     }
-    kept_what says.Thread t b d n c = record {
+    kept_what says.Thread t r b d n c = record {
       few_lines = omega arith;
       declared = k.declared;
       threads = record {
@@ -137,30 +141,30 @@ module _ (ts : List ThreadOf) where
         draft = draft_start (made ts s) (second_of ws) (s.count + 1) (held its []) t.2.0 (omega arith) (omega arith) t.3 (no_queue its n) refl;
       };
     }
-    kept_what (says.Op op) t b d n c = follows (says.Op op) (stands stand.Inside t.0) (record { nested = c; room = tt; arm = tt; resolved = t.1; list = tt })
-    kept_what (says.Put pool) t b d n c = follows (says.Put pool) (stands stand.Inside t.0) (record { nested = c; room = tt; arm = tt; resolved = (t.1, longer (held its [])); list = (refl, t.2, of_pool n) })
-    kept_what (says.Lock l) t b d n c = follows (says.Lock l) (stands stand.Inside t.0) (record { nested = (n, c); room = room d; arm = tt; resolved = t.1; list = tt })
-    kept_what (says.If (test.Take pool i)) t b d n c = let none : i < 0 = t.1.1 in absurd (omega arith)
-    kept_what (says.If test) t b d n c = follows (says.If test) (stands stand.Inside t.0) (record { nested = c; room = room d; arm = tt; resolved = t.1; list = tt })
-    kept_what (says.Take pool) t b d n c = follows (says.Take pool) (stands stand.Inside t.0) (record { nested = c; room = room d; arm = tt; resolved = (t.1, longer (held its [])); list = (refl, t.2, of_pool n) })
-    kept_what says.Else t b d n c =
+    kept_what (says.Op op) t r b d n c = follows (says.Op op) (stands stand.Inside t.0) (record { nested = c; room = tt; arm = tt; resolved = t.1; list = tt })
+    kept_what (says.Put pool) t r b d n c = follows (says.Put pool) (stands stand.Inside t.0) (record { nested = c; room = tt; arm = tt; resolved = (t.1, longer (held its [])); list = (refl, t.2, of_pool n) })
+    kept_what (says.Lock l) t r b d n c = follows (says.Lock l) (stands stand.Inside t.0) (record { nested = (n, c); room = room d; arm = tt; resolved = t.1; list = tt })
+    kept_what (says.If (test.Take pool i)) t r b d n c = let none : i < 0 = t.1.1 in absurd (omega arith)
+    kept_what (says.If test) t r b d n c = follows (says.If test) (stands stand.Inside t.0) (record { nested = c; room = room d; arm = tt; resolved = t.1; list = tt })
+    kept_what (says.Take pool) t r b d n c = follows (says.Take pool) (stands stand.Inside t.0) (record { nested = c; room = room d; arm = tt; resolved = (t.1, longer (held its [])); list = (refl, t.2, of_pool n) })
+    kept_what says.Else t r b d n c =
         let h = and_parts (is_inside s.region) (is_first_branch (innermost s.draft.blocks)) (not-false (is_inside s.region && is_first_branch (innermost s.draft.blocks)) b) in
         follows says.Else (inside s.region (ap not h.0)) (record { nested = first_branch (innermost s.draft.blocks) h.1; room = tt; arm = tt; resolved = tt; list = tt })
-    kept_what (says.Peek x) t b d n c = follows (says.Peek x) (stands stand.Inside t.0) (record { nested = n; room = room d; arm = tt; resolved = t.1; list = tt })
-    kept_what (says.Case u) t b d n c =
+    kept_what (says.Peek x) t r b d n c = follows (says.Peek x) (stands stand.Inside t.0) (record { nested = n; room = room d; arm = tt; resolved = t.1; list = tt })
+    kept_what (says.Case u) t r b d n c =
         let h = or_parts (not (directly_in_peek s.draft.blocks)) (list_any (λ v. v == u) s.draft.arms.cases) c in
         follows (says.Case u) (stands stand.Inside t.0) (record { nested = peeked (innermost s.draft.blocks) (not-false (directly_in_peek s.draft.blocks) h.0); room = room d; arm = h.1; resolved = t.1; list = tt })
-    kept_what says.Other t b d n c =
+    kept_what says.Other t r b d n c =
         let h = or_parts (not (directly_in_peek s.draft.blocks)) s.draft.arms.other c in
         follows says.Other (stands stand.Inside t) (record { nested = peeked (innermost s.draft.blocks) (not-false (directly_in_peek s.draft.blocks) h.0); room = room d; arm = h.1; resolved = tt; list = tt })
-    kept_what says.Nothing t b d n c =
+    kept_what says.Nothing t r b d n c =
         let h = or_parts (not (directly_in_peek s.draft.blocks)) s.draft.arms.none c in
         follows says.Nothing (stands stand.Inside t) (record { nested = peeked (innermost s.draft.blocks) (not-false (directly_in_peek s.draft.blocks) h.0); room = room d; arm = h.1; resolved = tt; list = tt })
-    kept_what says.Loop t b d n c =
+    kept_what says.Loop t r b d n c =
         let h = or_parts (in_peek s.draft.blocks) (any_queue its && (not (locks_in s.draft.blocks).sq || any_queue (behind_when its))) n in
         follows says.Loop (stands stand.Inside t.0) (record { nested = h.0; room = room d; arm = tt; resolved = longer (held_in_loop its); list = (refl, t.1, λ locked. no_queue_before its (no_queue_outside its (locks_in s.draft.blocks).sq (any_queue (behind_when its)) h.1 locked)) })
-    kept_what says.Break t b d n c = follows says.Break (stands stand.Inside t) (record { nested = (c, out_of_loop (way_out s.draft.blocks) n); room = tt; arm = tt; resolved = tt; list = tt })
-    kept_what says.Close t b d n c = kept_brace ts (with_names s ps) lt k (inside s.region b) (innermost s.draft.blocks) refl c
+    kept_what says.Break t r b d n c = follows says.Break (stands stand.Inside t) (record { nested = (c, out_of_loop (way_out s.draft.blocks) n); room = tt; arm = tt; resolved = tt; list = tt })
+    kept_what says.Close t r b d n c = kept_brace ts (with_names s ps) lt k (inside s.region b) (innermost s.draft.blocks) refl c
 
   -- ---- a line
 
@@ -173,7 +177,7 @@ module _ (ts : List ThreadOf) where
       let d = naming s.draft ps in
       let right : AreRight ts s d vs 0 start ps = record { numbers = a.numbers; known = a.known; new = a.new; room = a.room; named = all_named s.draft.names ps; values = λ i. let n : 0 + i ≡ i = omega arith in ap (λ j. slice_get vs j) n } in
       let t = told ts s d ws (items_by s ws (Some r)) r vs (fine_line ts s d vs (parts_of r) ps (are_of (parts_of r) ws m) right) (has_more ts s d ws r m v (record { numbers = a.numbers; known = a.known; new = a.new; once = a.once; named = all_named s.draft.names ps })) in
-      kept_what s ps ws (items_by s ws (Some r)) (stand_of r) (region_is (stand_of r) s.region a.line) a.few_lines (kept_named ts s ps a.few_names k) (says_of r vs) t a.braces a.depth a.nesting a.arms
+      kept_what s ps ws (items_by s ws (Some r)) (stand_of r) (region_is (stand_of r) s.region a.line) a.few_lines (kept_named ts s ps a.few_names k) (says_of r vs) t a.kinds a.braces a.depth a.nesting a.arms
 
   kept_words : (s : Sheet) (line : List ℕ) (ws : List (List ℕ)) → first_true (word_sentences s line ws) ≡ None → IsKept ts s → IsKept ts (counted (with_words s ws))
   kept_words s line [] e k = kept_counted ts s (few_lines s line (none_alone 8 _ e)) k
@@ -217,7 +221,8 @@ program_made s k threads = record {
   buffers = k.declared.known_buffers.each;
   distinct_buffers = k.declared.known_buffers.distinct;
   few_tokens = k.declared.known_tokens.few;
-  tokens = λ i d lt. token_kind (program_in s) _ (k.declared.known_tokens.each i d lt);
+  tokens = All-weaker (λ (t : Token). All (IsKind s.buffers) (kinds_in t)) (λ (t : Token). All (IsTokenKind (program_in s)) (kinds_in t)) (λ (t : Token) h. All-weaker (IsKind s.buffers) (IsTokenKind (program_in s)) (token_kind (program_in s)) (kinds_in t) h) s.tokens k.declared.known_tokens.each;
+  distinct_kinds = k.declared.known_tokens.kinds;
   distinct_tokens = k.declared.known_tokens.distinct;
   few_pools = k.declared.known_pools.few;
   pools = k.declared.known_pools.each;

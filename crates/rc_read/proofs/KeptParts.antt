@@ -15,13 +15,15 @@ use Rattle.rc_lang.specs.declared.program.Head.{Head}
 use Rattle.rc_lang.specs.declared.program.Token.{Token}
 use Rattle.rc_lang.specs.declared.program.TokenKind.{TokenKind}
 use Rattle.rc_lang.specs.declared.program.TokenKind.TheVariants.{Read, Write, Fsync, Nop, Other}
+use Rattle.rc_lang.specs.Kinds.{is_one_kind, kinds_in}
 use Rattle.rc_lang.specs.Names.{is_name}
 use Rattle.rc_lang.specs.Program.{Buffer, IsBuffer, IsFile, IsThread, Program, Thread, line_numbers, no_buffer, numbers_from, shares_at}
 use Rattle.rc_lang.proofs.Lookups.{get_push}
 use Rattle.rc_lang.proofs.Rising.{rises_more}
 use Rattle.rc_read.specs.Sheets.{buffer_names, has_file, has_token, is_among, thread_names}
 use Rattle.rc_read.proofs.KeptItems.{none_distinct}
-use Rattle.rc_read.proofs.KeptRows.{IsHead, IsKind, head_start}
+use Rattle.rc_read.proofs.KeptKinds.{IsKind}
+use Rattle.rc_read.proofs.KeptRows.{IsHead, head_start}
 
 -- ---- keys that differ
 
@@ -78,16 +80,18 @@ buffers_more buffers b k is new room = record {
 
 pub record AreTokens (buffers : List Buffer) (tokens : List Token) : Type 0 where
   pub few : length tokens ≤ 256
-  pub each : All (λ (t : Token). IsKind buffers t.kind) tokens
+  pub each : All (λ (t : Token). All (IsKind buffers) (kinds_in t)) tokens
+  pub kinds : All (λ (t : Token). IsDistinct is_one_kind (kinds_in t)) tokens
   pub distinct : IsDistinct nat_eq (map (λ (t : Token). t.user_data) tokens)
 
 no_tokens : (buffers : List Buffer) → AreTokens buffers []
-no_tokens buffers = record { few = omega arith; each = All-nil (λ (t : Token). IsKind buffers t.kind); distinct = none_distinct nat_eq }
+no_tokens buffers = record { few = omega arith; each = All-nil (λ (t : Token). All (IsKind buffers) (kinds_in t)); kinds = All-nil (λ (t : Token). IsDistinct is_one_kind (kinds_in t)); distinct = none_distinct nat_eq }
 
-pub tokens_more : (buffers : List Buffer) (tokens : List Token) (t : Token) → AreTokens buffers tokens → IsKind buffers t.kind → has_token tokens t.user_data ≡ false → length tokens < 256 → AreTokens buffers (tokens ++ t ∷ [])
-tokens_more buffers tokens t k is new room = record {
+pub tokens_more : (buffers : List Buffer) (tokens : List Token) (t : Token) → AreTokens buffers tokens → All (IsKind buffers) (kinds_in t) → IsDistinct is_one_kind (kinds_in t) → has_token tokens t.user_data ≡ false → length tokens < 256 → AreTokens buffers (tokens ++ t ∷ [])
+tokens_more buffers tokens t k is differ new room = record {
   few = one_more tokens t 256 room;
-  each = All-push (λ (x : Token). IsKind buffers x.kind) tokens t k.each is;
+  each = All-push (λ (x : Token). All (IsKind buffers) (kinds_in x)) tokens t k.each is;
+  kinds = All-push (λ (x : Token). IsDistinct is_one_kind (kinds_in x)) tokens t k.kinds differ;
   distinct = distinct_more nat_eq nat_eq_equiv (λ (x : Token). x.user_data) tokens t k.distinct new;
 }
 
@@ -104,7 +108,7 @@ kind_on buffers b Nop h = tt
 kind_on buffers b Other h = tt
 
 pub tokens_on : (buffers : List Buffer) (b : Buffer) (tokens : List Token) → AreTokens buffers tokens → AreTokens (buffers ++ b ∷ []) tokens
-tokens_on buffers b tokens k = record { few = k.few; each = λ i d lt. kind_on buffers b _ (k.each i d lt); distinct = k.distinct }
+tokens_on buffers b tokens k = record { few = k.few; each = All-weaker (λ (t : Token). All (IsKind buffers) (kinds_in t)) (λ (t : Token). All (IsKind (buffers ++ b ∷ [])) (kinds_in t)) (λ (t : Token) h. All-weaker (IsKind buffers) (IsKind (buffers ++ b ∷ [])) (kind_on buffers b) (kinds_in t) h) tokens k.each; kinds = k.kinds; distinct = k.distinct }
 
 -- ---- pools
 

@@ -1,15 +1,15 @@
 -- What a line says, form by form, where no sentence is true of it.
-use Rattle.std.proofs.Common.{◌≡◌, ℕ, suc, ◌+◌, ◌*◌, ◌^◌, ◌<◌, ◌≤◌, Bool, true, false, cond, bytes_eq, nat_le, List, [], ◌∷◌, length, None, is_none, refl, sym, ap, ◌∙◌, subst, pow-suc, arith}
+use Rattle.std.proofs.Common.{◌≡◌, ℕ, suc, ◌+◌, ◌*◌, ◌^◌, ◌<◌, ◌≤◌, Bool, true, false, cond, bytes_eq, nat_le, List, [], ◌∷◌, length, None, is_none, refl, sym, ap, ◌∙◌, subst, pow-suc, All, arith}
 use Rattle.std.proofs.lemmas.Bool.{or_parts, leb-false, leb-true}
 use Rattle.rc_lang.specs.declared.lines.Locks.{Locks}
 use Rattle.rc_lang.specs.declared.lines.Operand.{Operand as OperandOf}
 use Rattle.rc_lang.specs.declared.lines.Operand.TheVariants as operand
 use Rattle.rc_lang.specs.declared.program.Head.{Head}
-use Rattle.rc_lang.specs.declared.program.TokenKind.{TokenKind}
 use Rattle.rc_lang.specs.declared.program.TokenKind.TheVariants as kind
+use Rattle.rc_lang.specs.Kinds.{kinds_in}
 use Rattle.rc_lang.specs.Locks.{is_some_lock}
 use Rattle.rc_lang.specs.Names.{is_name}
-use Rattle.rc_lang.specs.Program.{AreTaken, Buffer as BufferOf, DeclaresPool, DeclaresToken, IsFile, IsItems, IsList, IsOperand, IsResolvedOp, IsResolvedTest, IsRingSize, Thread as ThreadOf, shares_at}
+use Rattle.rc_lang.specs.Program.{AreTaken, DeclaresPool, DeclaresToken, IsFile, IsItems, IsList, IsOperand, IsResolvedOp, IsResolvedTest, IsRingSize, Thread as ThreadOf}
 use Rattle.rc_read.specs.declared.says.Rings.{Rings}
 use Rattle.rc_read.specs.declared.says.Says.{Says}
 use Rattle.rc_read.specs.declared.says.Says.TheVariants as says
@@ -23,13 +23,14 @@ use Rattle.rc_read.specs.declared.fixed.Word.TheVariants as words
 use Rattle.rc_read.specs.declared.values.Item.{Item}
 use Rattle.rc_read.specs.declared.values.Value.{Value}
 use Rattle.rc_read.specs.Adds.{held, second_of}
-use Rattle.rc_read.specs.Says.{says_of, sets, small}
+use Rattle.rc_read.specs.Says.{named, says_of, sets, small}
 use Rattle.rc_read.specs.Sentences.{any_double, any_named_twice, any_unknown, is_double, is_unknown}
 use Rattle.rc_read.specs.Sheets.{Draft, Sheet, buffer_names, has_file, has_token, is_among, thread_names}
 use Rattle.rc_read.specs.Spots.{Spot, matches, spots_of, spots_of_items}
 use Rattle.rc_read.specs.Table.{parts_of, stand_of, version_of}
-use Rattle.rc_read.specs.Values.{any_lacks, items_in, rounded_up, start, value_at, values_of}
+use Rattle.rc_read.specs.Values.{any_lacks, items_in, kinds_named, rounded_up, start, value_at, values_of}
 use Rattle.rc_read.proofs.KeptItems.{SayFine, both_fine, items_fine}
+use Rattle.rc_read.proofs.KeptKinds.{AreKinds, IsKind, four_kinds, one_kind, token_kinds}
 use Rattle.rc_read.proofs.KeptLists.{IsLoopOf, NoFlag, header_held, list_alone, loop_held, loop_when_held}
 use Rattle.rc_read.proofs.KeptSpots.{AllNamed, has_flag, is_second, items_after, items_alone, items_between, items_second, items_third, named_behind}
 use Rattle.rc_read.proofs.KeptValues.{Fine, made}
@@ -111,14 +112,6 @@ head_start = record { version = (omega arith, omega arith); rings = one_size 0 0
 
 -- ---- what is said
 
--- A token of a read or a write names a buffer, and that of a write as many of its shares as it takes.
-abbrev pub IsKind : List BufferOf → TokenKind → Type 0
-IsKind buffers (kind.Read b) = b < length buffers
-IsKind buffers (kind.Write b k) = (b < length buffers) × (1 ≤ k) × (k ≤ shares_at buffers b)
-IsKind buffers kind.Fsync = Unit {0}
-IsKind buffers kind.Nop = Unit {0}
-IsKind buffers kind.Other = Unit {0}
-
 -- The word is a name, and none of these.
 abbrev pub IsNewName : List (List ℕ) → List ℕ → Type 0
 IsNewName names w = (is_name w ≡ true) × (is_among names w ≡ false)
@@ -130,7 +123,7 @@ module _ (threads : List ThreadOf) (s : Sheet) (d : Draft) (ws : List (List ℕ)
   IsTold st (says.Ring rings) = (st ≡ stand.Second) × AreRings rings
   IsTold st (says.File f) = (st ≡ stand.Declaration) × IsFile f × (has_file s.files f.number ≡ false) × (length s.files < 16)
   IsTold st (says.Buffer bytes shares) = (st ≡ stand.Declaration) × ((1 ≤ bytes) × (bytes ≤ 4096)) × ((1 ≤ shares) × (shares ≤ 16)) × (length s.buffers < 64) × IsNewName (buffer_names s.buffers) (second_of ws)
-  IsTold st (says.Token t) = (st ≡ stand.Declaration) × IsKind s.buffers t.kind × (has_token s.tokens t.user_data ≡ false) × (length s.tokens < 256)
+  IsTold st (says.Token t) = (st ≡ stand.Declaration) × All (IsKind s.buffers) (kinds_in t) × (has_token s.tokens t.user_data ≡ false) × (length s.tokens < 256)
   IsTold st says.Pool = (st ≡ stand.Declaration) × (4 ≤ s.head.version) × (length s.pools < 16) × IsNewName s.pools (second_of ws)
   IsTold st says.Thread = (st ≡ stand.Header) × (length s.threads < 16) × IsNewName (thread_names s.threads) (second_of ws) × IsItems (made threads s) (held its [])
   IsTold st (says.Op op) = (st ≡ stand.Inside) × IsResolvedOp (made threads s) (length d.names) op
@@ -147,20 +140,21 @@ module _ (threads : List ThreadOf) (s : Sheet) (d : Draft) (ws : List (List ℕ)
   IsTold st says.Break = st ≡ stand.Inside
   IsTold st says.Close = Unit {0}
 
-  -- What a line says besides its values: the name that it declares, its items, and that it isn't in earlier versions.
-  abbrev pub HasMore : Row → Type 0
-  HasMore row.Buffer = IsNewName (buffer_names s.buffers) (second_of ws)
-  HasMore row.Pool = (4 ≤ s.head.version) × IsNewName s.pools (second_of ws)
-  HasMore row.Thread = IsNewName (thread_names s.threads) (second_of ws) × IsItems (made threads s) (held its [])
-  HasMore row.Put = IsList (made threads s) (held its [])
-  HasMore row.PutNamed = IsList (made threads s) (held its [])
-  HasMore row.LockSq = 4 ≤ s.head.version
-  HasMore row.LockCq = 4 ≤ s.head.version
-  HasMore row.IfTake = IsList (made threads s) (held its [])
-  HasMore row.IfTakeNamed = IsList (made threads s) (held its [])
-  HasMore row.Loop = IsLoopOf (made threads s) (length d.names) its
-  HasMore row.LoopWhen = IsLoopOf (made threads s) (length d.names) its
-  HasMore r = Unit {0}
+  -- What a line says besides its values: the name that it declares, its items, its kinds, and that it isn't in earlier versions.
+  abbrev pub HasMore : List Value → Row → Type 0
+  HasMore vs row.Buffer = IsNewName (buffer_names s.buffers) (second_of ws)
+  HasMore vs row.TokenKinds = AreKinds s.buffers (kinds_named vs)
+  HasMore vs row.Pool = (4 ≤ s.head.version) × IsNewName s.pools (second_of ws)
+  HasMore vs row.Thread = IsNewName (thread_names s.threads) (second_of ws) × IsItems (made threads s) (held its [])
+  HasMore vs row.Put = IsList (made threads s) (held its [])
+  HasMore vs row.PutNamed = IsList (made threads s) (held its [])
+  HasMore vs row.LockSq = 4 ≤ s.head.version
+  HasMore vs row.LockCq = 4 ≤ s.head.version
+  HasMore vs row.IfTake = IsList (made threads s) (held its [])
+  HasMore vs row.IfTakeNamed = IsList (made threads s) (held its [])
+  HasMore vs row.Loop = IsLoopOf (made threads s) (length d.names) its
+  HasMore vs row.LoopWhen = IsLoopOf (made threads s) (length d.names) its
+  HasMore vs r = Unit {0}
 
   set_told : (x : ℕ) (o : OperandOf) → x < length d.names → IsOperand (length d.names) o → IsTold stand.Inside (sets x o)
   set_told x (operand.Variable y) a b = (refl, (a, b))
@@ -169,7 +163,7 @@ module _ (threads : List ThreadOf) (s : Sheet) (d : Draft) (ws : List (List ℕ)
   one_taken : (l : Locks) → is_some_lock l ≡ true → 4 ≤ s.head.version → AreTaken (made threads s) l
   one_taken l some later = record { some = some; both = λ v. let early : s.head.version ≤ 3 = v in absurd (omega arith) }
 
-  pub told : (r : Row) (vs : List Value) → Fine threads s d vs 0 1 None (parts_of r) → HasMore r → IsTold (stand_of r) (says_of r vs)
+  pub told : (r : Row) (vs : List Value) → Fine threads s d vs 0 1 None (parts_of r) → HasMore vs r → IsTold (stand_of r) (says_of r vs)
   told row.Version vs f m = (refl, omega arith, omega arith)
   told row.SecondVersion vs f m = (refl, omega arith, omega arith)
   told row.ThirdVersion vs f m = (refl, omega arith, omega arith)
@@ -181,11 +175,12 @@ module _ (threads : List ThreadOf) (s : Sheet) (d : Draft) (ws : List (List ℕ)
   told row.RingCqLeft vs f m = (refl, two_sizes (small vs 0) (small vs 1) (small vs 2) f.0 f.1.0 f.1.1.0)
   told row.File vs f m = (refl, record { number = f.0.0; len = f.1.0.1 }, f.0.1, f.0.2)
   told row.Buffer vs f m = (refl, f.1.0, f.1.1.0, f.0, m)
-  told row.TokenRead vs f m = (refl, f.1.0, f.0.0, f.0.1)
-  told row.TokenWrite vs f m = (refl, (f.1.0, f.1.1.0.0, f.1.1.0.1), f.0.0, f.0.1)
-  told row.TokenFsync vs f m = (refl, tt, f.0.0, f.0.1)
-  told row.TokenNop vs f m = (refl, tt, f.0.0, f.0.1)
-  told row.TokenOther vs f m = (refl, tt, f.0.0, f.0.1)
+  told row.TokenRead vs f m = (refl, one_kind s.buffers (kind.Read (named vs 1)) f.1.0, f.0.0, f.0.1)
+  told row.TokenWrite vs f m = (refl, one_kind s.buffers (kind.Write (named vs 1) (small vs 2)) (f.1.0, f.1.1.0.0, f.1.1.0.1), f.0.0, f.0.1)
+  told row.TokenFsync vs f m = (refl, one_kind s.buffers kind.Fsync tt, f.0.0, f.0.1)
+  told row.TokenNop vs f m = (refl, one_kind s.buffers kind.Nop tt, f.0.0, f.0.1)
+  told row.TokenOther vs f m = (refl, one_kind s.buffers kind.Other tt, f.0.0, f.0.1)
+  told row.TokenKinds vs f m = (refl, four_kinds s.buffers (kinds_named vs) m, f.0.0, f.0.1)
   told row.Pool vs f m = (refl, m.0, f.0, m.1)
   told row.Thread vs f m = (refl, f.0, m.0, m.1)
   told row.Set vs f m = set_told _ _ f.0 f.1.0
@@ -209,6 +204,7 @@ module _ (threads : List ThreadOf) (s : Sheet) (d : Draft) (ws : List (List ℕ)
   told row.SetData64 vs f m = (refl, f.0)
   told row.Submit vs f m = (refl, f.0)
   told row.SubmitAndWait vs f m = (refl, (f.0, f.1.0.1))
+  told row.CqeGetData64 vs f m = (refl, tt)
   told row.CqeSeen vs f m = (refl, tt)
   told row.Peek vs f m = (refl, f.0)
   told row.Case vs f m = (refl, f.0)
@@ -287,11 +283,12 @@ module _ (threads : List ThreadOf) (s : Sheet) (d : Draft) (ws : List (List ℕ)
     pub once : any_named_twice (items_in (values_of sheet start ps)) ≡ false
     pub named : AllNamed d.names ps
 
-  pub has_more : (r : Row) → matches (parts_of r) ws ≡ true → nat_le (version_of r) s.head.version ≡ true → HaveNone (spots_of (parts_of r) ws) → HasMore threads s d ws (items_in (values_of sheet start (spots_of (parts_of r) ws))) r
+  pub has_more : (r : Row) → matches (parts_of r) ws ≡ true → nat_le (version_of r) s.head.version ≡ true → HaveNone (spots_of (parts_of r) ws) → HasMore threads s d ws (items_in (values_of sheet start (spots_of (parts_of r) ws))) (values_of sheet start (spots_of (parts_of r) ws)) r
   has_more row.Buffer e v h =
       let k = is_second words.Buffer NewBuffer (Number (Within 1 4096) ∷ Number (Within 1 16) ∷ []) ws refl refl e in
       let double = or_parts (is_double s NewBuffer (second_of ws)) (any_double s (spots_of (Number (Within 1 4096) ∷ Number (Within 1 16) ∷ []) k.rest)) (subst (λ ps. any_double s ps ≡ false) k.spots h.new) in
       (k.fits, double.0)
+  has_more row.TokenKinds e v h = token_kinds s d ws e h.numbers h.known
   has_more row.Pool e v h =
       let k = is_second words.Pool NewPool [] ws refl refl e in
       let double = or_parts (is_double s NewPool (second_of ws)) (any_double s (spots_of [] k.rest)) (subst (λ ps. any_double s ps ≡ false) k.spots h.new) in

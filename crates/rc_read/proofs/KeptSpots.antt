@@ -4,11 +4,11 @@ use Rattle.std.proofs.lemmas.Bool.{or_left, or_right}
 use Rattle.std.proofs.lemmas.List.Folds.{list_any-append}
 use Rattle.std.proofs.lemmas.Cmp.{nat_list_eq_equiv}
 use Rattle.rc_read.specs.declared.table.Part.{Part}
-use Rattle.rc_read.specs.declared.table.Part.TheVariants.{Fixed, Flag, Items}
+use Rattle.rc_read.specs.declared.table.Part.TheVariants.{Fixed, Flag, Items, Kinds}
 use Rattle.rc_read.specs.declared.fixed.Word.{Word}
 use Rattle.rc_read.specs.Adds.{second_of}
 use Rattle.rc_read.specs.Sheets.{is_among, is_variable, names_behind, number_in, with_name}
-use Rattle.rc_read.specs.Spots.{Spot, are_items, behind, behind_items, behind_one, fits, is_fixed, matches, spot_of_part, spots_at, spots_of, spots_of_items}
+use Rattle.rc_read.specs.Spots.{Spot, behind, behind_items, behind_list, behind_one, fits, is_fixed, is_list, matches, spot_of_part, spots_at, spots_of, spots_of_items, spots_of_list}
 
 -- ---- parts
 
@@ -21,11 +21,11 @@ pub record HasWord (part : Part) (parts : List Part) (ws : List (List ℕ)) : Ty
   pub behind : behind part ws ≡ Some rest
   pub matches : matches parts rest ≡ true
 
-has_word : (part : Part) (parts : List Part) (ws : List (List ℕ)) → are_items part ≡ false → matches (part ∷ parts) ws ≡ true → HasWord part parts ws
+has_word : (part : Part) (parts : List Part) (ws : List (List ℕ)) → is_list part ≡ false → matches (part ∷ parts) ws ≡ true → HasWord part parts ws
 has_word part parts ws one e = go ws (behind_is ws) (sym (ap (λ o. unwrap_or (option_map (λ rest. matches parts rest) o) false) (behind_is ws)) ∙ e)
   where
     behind_is : (xs : List (List ℕ)) → behind part xs ≡ behind_one part xs
-    behind_is xs = ap (λ b. cond b (Some (behind_items xs)) (behind_one part xs)) one
+    behind_is xs = ap (λ b. cond b (behind_list part xs) (behind_one part xs)) one
 
     on_word : (w : List ℕ) (rest : List (List ℕ)) (b : Bool) → fits part w ≡ b → behind part (w ∷ rest) ≡ cond b (Some rest) None → unwrap_or (option_map (λ r. matches parts r) (cond b (Some rest) None)) false ≡ true → HasWord part parts (w ∷ rest)
     on_word w rest true f b h = record { word = w; rest = rest; words = refl; fits = f; behind = b; matches = h }
@@ -38,17 +38,19 @@ has_word part parts ws one e = go ws (behind_is ws) (sym (ap (λ o. unwrap_or (o
 spots_step : (part : Part) (parts : List Part) (ws : List (List ℕ)) → (h : HasWord part parts ws) → spots_of (part ∷ parts) ws ≡ spots_at part (h.word ∷ h.rest) ++ spots_of parts h.rest
 spots_step part parts ws h = ap (λ xs. spots_at part xs ++ spots_of parts (unwrap_or (behind part ws) [])) h.words ∙ ap (λ o. spots_at part (h.word ∷ h.rest) ++ spots_of parts (unwrap_or o [])) h.behind
 
--- The places are those of the parts that aren't fixed, up to the items.
+-- The places are those of the parts that aren't fixed, up to a list.
 abbrev pub AreOf : List Part → List Spot → Type 0
 AreOf [] ps = Unit {0}
 AreOf (Fixed f ∷ parts) ps = AreOf parts ps
 AreOf (Items ∷ parts) ps = Unit {0}
+AreOf (Kinds ∷ parts) ps = Unit {0}
 AreOf (part ∷ parts) ps = (w : List ℕ) × (rest : List Spot) × (ps ≡ record { part = part; word = w } ∷ rest) × AreOf parts rest
 
 pub are_of : (parts : List Part) (ws : List (List ℕ)) → matches parts ws ≡ true → AreOf parts (spots_of parts ws)
 are_of [] ws e = tt
 are_of (Fixed f ∷ parts) ws e = let h = has_word (Fixed f) parts ws refl e in subst (λ ps. AreOf parts ps) (sym (spots_step (Fixed f) parts ws h)) (are_of parts h.rest h.matches)
 are_of (Items ∷ parts) ws e = tt
+are_of (Kinds ∷ parts) ws e = tt
 are_of (part ∷ parts) ws e = let h = has_word part parts ws refl e in (h.word, spots_of parts h.rest, spots_step part parts ws h, are_of parts h.rest h.matches)
 
 -- After a fixed word the place of the line's second word is first.
@@ -58,7 +60,7 @@ pub record IsSecond (f : Word) (part : Part) (parts : List Part) (ws : List (Lis
   pub spots : spots_of (Fixed f ∷ part ∷ parts) ws ≡ record { part = part; word = second_of ws } ∷ spots_of parts rest
   pub matches : matches parts rest ≡ true
 
-pub is_second : (f : Word) (part : Part) (parts : List Part) (ws : List (List ℕ)) → are_items part ≡ false → is_fixed part ≡ false → matches (Fixed f ∷ part ∷ parts) ws ≡ true → IsSecond f part parts ws
+pub is_second : (f : Word) (part : Part) (parts : List Part) (ws : List (List ℕ)) → is_list part ≡ false → is_fixed part ≡ false → matches (Fixed f ∷ part ∷ parts) ws ≡ true → IsSecond f part parts ws
 is_second f part parts ws one plain e =
     let h = has_word (Fixed f) (part ∷ parts) ws refl e in
     let k = has_word part parts h.rest one h.matches in
@@ -71,7 +73,7 @@ is_second f part parts ws one plain e =
     }
   where
     alone : (w : List ℕ) (rest : List (List ℕ)) → spots_at part (w ∷ rest) ≡ record { part = part; word = w } ∷ []
-    alone w rest = ap (λ b. cond b (spots_of_items (w ∷ rest)) (spot_of_part part (w ∷ rest))) one ∙ ap (λ b. cond b [] (record { part = part; word = w } ∷ [])) plain
+    alone w rest = ap (λ b. cond b (spots_of_list part (w ∷ rest)) (spot_of_part part (w ∷ rest))) one ∙ ap (λ b. cond b [] (record { part = part; word = w } ∷ [])) plain
 
 no_spot : (f : Word) (ws : List (List ℕ)) → spot_of_part (Fixed f) ws ≡ []
 no_spot f [] = refl
@@ -96,12 +98,12 @@ items_after e f g ws m =
     (k.0, spots_step (Fixed e) (Fixed f ∷ Items ∷ Fixed g ∷ []) ws h ∙ k.1)
 
 -- After a fixed word and another place, or after two fixed words and another place, are those of the items.
-pub items_second : (f : Word) (part : Part) (ws : List (List ℕ)) → are_items part ≡ false → is_fixed part ≡ false → matches (Fixed f ∷ part ∷ Items ∷ []) ws ≡ true → (w : List ℕ) × (rest : List (List ℕ)) × (spots_of (Fixed f ∷ part ∷ Items ∷ []) ws ≡ record { part = part; word = w } ∷ spots_of_items rest)
+pub items_second : (f : Word) (part : Part) (ws : List (List ℕ)) → is_list part ≡ false → is_fixed part ≡ false → matches (Fixed f ∷ part ∷ Items ∷ []) ws ≡ true → (w : List ℕ) × (rest : List (List ℕ)) × (spots_of (Fixed f ∷ part ∷ Items ∷ []) ws ≡ record { part = part; word = w } ∷ spots_of_items rest)
 items_second f part ws one plain e =
     let k = is_second f part (Items ∷ []) ws one plain e in
     (second_of ws, k.rest, k.spots ∙ ap (λ ps. record { part = part; word = second_of ws } ∷ ps) (append-nil (spots_of_items k.rest)))
 
-pub items_third : (e f g : Word) (part : Part) (ws : List (List ℕ)) → are_items part ≡ false → is_fixed part ≡ false → matches (Fixed e ∷ Fixed f ∷ part ∷ Items ∷ Fixed g ∷ []) ws ≡ true → (w : List ℕ) × (rest : List (List ℕ)) × (spots_of (Fixed e ∷ Fixed f ∷ part ∷ Items ∷ Fixed g ∷ []) ws ≡ record { part = part; word = w } ∷ spots_of_items rest)
+pub items_third : (e f g : Word) (part : Part) (ws : List (List ℕ)) → is_list part ≡ false → is_fixed part ≡ false → matches (Fixed e ∷ Fixed f ∷ part ∷ Items ∷ Fixed g ∷ []) ws ≡ true → (w : List ℕ) × (rest : List (List ℕ)) × (spots_of (Fixed e ∷ Fixed f ∷ part ∷ Items ∷ Fixed g ∷ []) ws ≡ record { part = part; word = w } ∷ spots_of_items rest)
 items_third e f g part ws one plain m =
     let h = has_word (Fixed e) (Fixed f ∷ part ∷ Items ∷ Fixed g ∷ []) ws refl m in
     let k = is_second f part (Items ∷ Fixed g ∷ []) h.rest one plain h.matches in

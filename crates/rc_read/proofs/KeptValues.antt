@@ -10,7 +10,7 @@ use Rattle.rc_lang.specs.declared.program.Token.{Token as TokenOf}
 use Rattle.rc_lang.specs.Numbers.{is_number, number_of, value_of}
 use Rattle.rc_lang.specs.Program.{Buffer as BufferOf, DeclaresFile, DeclaresToken, IsOperand, Program, Thread as ThreadOf, shares_at}
 use Rattle.rc_read.specs.declared.table.Part.{Part}
-use Rattle.rc_read.specs.declared.table.Part.TheVariants.{Fixed, Variable, Operand, Number, File, Buffer, Token, Pool, NewFile, NewBuffer, NewToken, NewPool, NewThread, Items}
+use Rattle.rc_read.specs.declared.table.Part.TheVariants.{Fixed, Variable, Operand, Number, File, Buffer, Token, Pool, NewFile, NewBuffer, NewToken, NewPool, NewThread, Items, Kinds}
 use Rattle.rc_read.specs.declared.table.Range.TheVariants.{Within, Size, CompletionSize, Rounded, Entries, Shares}
 use Rattle.rc_read.specs.declared.values.Seen.{Seen}
 use Rattle.rc_read.specs.declared.values.Value.{Value}
@@ -67,7 +67,7 @@ buffer_below bs w e =
     let lt = number_below (buffer_names bs) w (not-false (is_among (buffer_names bs) w) e) in
     subst (λ n. buffer_number bs w < n) (length-map bs (λ (b : BufferOf). b.name)) lt
 
-shares_known : (bs : List BufferOf) (w : List ℕ) → is_among (buffer_names bs) w ≡ true → shares_in bs w ≡ Some (shares_at bs (buffer_number bs w))
+pub shares_known : (bs : List BufferOf) (w : List ℕ) → is_among (buffer_names bs) w ≡ true → shares_in bs w ≡ Some (shares_at bs (buffer_number bs w))
 shares_known [] w e = absurd (cc)
 shares_known (b ∷ bs) w e = go (bytes_eq b.name w) e (λ h. shares_known bs w h)
   where
@@ -156,11 +156,12 @@ module _ (threads : List ThreadOf) (s : Sheet) (d : Draft) where
   buffer_behind b Buffer v = Some (as_named v)
   buffer_behind b part v = b
 
-  -- The values from index i on are those of the parts, up to the items.
+  -- The values from index i on are those of the parts, up to a list.
   abbrev pub Fine : List Value → ℕ → ℕ → Option ℕ → List Part → Type 0
   Fine vs i r b [] = Unit {0}
   Fine vs i r b (Fixed f ∷ parts) = Fine vs i r b parts
   Fine vs i r b (Items ∷ parts) = Unit {0}
+  Fine vs i r b (Kinds ∷ parts) = Unit {0}
   Fine vs i r b (part ∷ parts) = FineAt r b part (slice_get vs i) × Fine vs (suc i) (rounded_behind r part (slice_get vs i)) (buffer_behind b part (slice_get vs i)) parts
 
   abbrev sheet : Sheet
@@ -254,6 +255,7 @@ module _ (threads : List ThreadOf) (s : Sheet) (d : Draft) where
   fine_is vs [] i seen r b ps a are h = tt
   fine_is vs (Fixed f ∷ parts) i seen r b ps a are h = fine_is vs parts i seen r b ps a are h
   fine_is vs (Items ∷ parts) i seen r b ps a are h = tt
+  fine_is vs (Kinds ∷ parts) i seen r b ps a are h = tt
   fine_is vs (part ∷ parts) i seen r b ps a are h =
       let k = subst (λ qs. AreRight vs i seen qs) are.2 h in
       let f = first_right vs i seen (record { part = part; word = are.0 }) are.1 k in

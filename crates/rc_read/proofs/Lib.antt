@@ -6,6 +6,7 @@ pub mod KeptArms
 pub mod KeptDraft
 pub mod KeptForms
 pub mod KeptItems
+pub mod KeptKinds
 pub mod KeptLinks
 pub mod KeptLists
 pub mod KeptParts

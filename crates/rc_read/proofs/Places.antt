@@ -1,14 +1,15 @@
 -- The places of a line whose words are those of a form, part by part.
-use Rattle.std.proofs.Common.{◌≡◌, ℕ, zero, suc, ◌+◌, ◌-◌, ◌<◌, ◌≤◌, List, [], ◌∷◌, ◌++◌, length, get_or, take, drop, Bool, true, false, cond, eqb, Option, Some, None, refl, sym, ap, ◌∙◌, arith, append_assoc, add-one}
+use Rattle.std.proofs.Common.{◌≡◌, ℕ, zero, suc, ◌+◌, ◌-◌, ◌<◌, ◌≤◌, List, [], ◌∷◌, ◌++◌, length, get_or, take, drop, Bool, true, false, cond, ◌&&◌, nat_le, eqb, Option, Some, None, refl, sym, ap, ◌∙◌, arith, append_assoc, add-one}
 use Rattle.std.specs.Borrow.{Bor}
 use Rattle.std.specs.Prelude.{option_map, unwrap_or}
 use Rattle.std.proofs.lemmas.Bool.{ne_eqb}
 use Rattle.std.proofs.lemmas.List.{drop-map, drop-drop, drop_more, take_rest}
 use Rattle.std.proofs.Math.Dec.{eqb-suc-suc}
 use Rattle.std.proofs.Math.ListN.{drop_of_length-le}
-use Rattle.rc_read.specs.Quick.{items_in_front, taken_one, taken_by}
-use Rattle.rc_read.specs.Spots.{Spot, are_items, fits, is_item, behind_items, behind_one, is_end, matches, spots_at, spots_of}
+use Rattle.rc_read.specs.Quick.{items_in_front, taken_by, taken_list, taken_one}
+use Rattle.rc_read.specs.Spots.{Spot, are_kinds, behind_items, behind_list, behind_one, count_or, fits, is_end, is_item, is_list, matches, spots_at, spots_of}
 use Rattle.rc_read.specs.declared.table.Part.{Part}
+use Rattle.rc_read.specs.declared.table.Part.TheVariants.{Kinds, KindWord}
 use Rattle.rc_read.specs.Texts.{texts_of}
 
 drop_one_more : (n : ℕ) (w : List ℕ) (ws : List (List ℕ)) → drop (n + 1) (w ∷ ws) ≡ drop n ws
@@ -29,8 +30,17 @@ one_by : (f : Bool) (n : ℕ) (w : List ℕ) (ws : List (List ℕ)) → cond f (
 one_by true n w ws e = ap (λ (k : ℕ). Some (drop k (w ∷ ws))) (some_is 1 n e)
 one_by false n w ws e = absurd cc
 
-behind_case : (b : Bool) (p : Part) (ws : List (List ℕ)) (n : ℕ) → cond b (Some (items_in_front ws)) (taken_one p ws) ≡ Some n → cond b (Some (behind_items ws)) (behind_one p ws) ≡ Some (drop n ws)
-behind_case true p ws n e = ap (λ (vs : List (List ℕ)). Some vs) (sym (drop_items ws) ∙ ap (λ (k : ℕ). drop k ws) (some_is (items_in_front ws) n e))
+-- a list takes these words
+kinds_by : (f : Bool) (ws : List (List ℕ)) (n : ℕ) → cond f (Some (length ws)) None ≡ Some n → cond f (Some []) None ≡ Some (drop n ws)
+kinds_by true ws n e = let le : length ws ≤ n = omega (arith, some_is (length ws) n e) in ap (λ (vs : List (List ℕ)). Some vs) (sym (drop_of_length-le ws le))
+kinds_by false ws n e = absurd cc
+
+list_behind : (p : Part) (ws : List (List ℕ)) (n : ℕ) → taken_list p ws ≡ Some n → behind_list p ws ≡ Some (drop n ws)
+list_behind Kinds ws n e = kinds_by (are_kinds KindWord ws && nat_le (count_or ws) 3) ws n e
+list_behind p ws n e = ap (λ (vs : List (List ℕ)). Some vs) (sym (drop_items ws) ∙ ap (λ (k : ℕ). drop k ws) (some_is (items_in_front ws) n e))
+
+behind_case : (b : Bool) (p : Part) (ws : List (List ℕ)) (n : ℕ) → cond b (taken_list p ws) (taken_one p ws) ≡ Some n → cond b (behind_list p ws) (behind_one p ws) ≡ Some (drop n ws)
+behind_case true p ws n e = list_behind p ws n e
 behind_case false p [] n e = absurd cc
 behind_case false p (w ∷ ws) n e = one_by (fits p w) n w ws e
 
@@ -38,21 +48,29 @@ none_one : (f : Bool) (ws : List (List ℕ)) → cond {A = Option ℕ} f (Some 1
 none_one true ws e = absurd cc
 none_one false ws e = refl
 
-none_case : (b : Bool) (p : Part) (ws : List (List ℕ)) → cond b (Some (items_in_front ws)) (taken_one p ws) ≡ None → cond b (Some (behind_items ws)) (behind_one p ws) ≡ None
-none_case true p ws e = absurd cc
+no_kinds : (f : Bool) (ws : List (List ℕ)) → cond f (Some (length ws)) None ≡ None → cond {A = Option (List (List ℕ))} f (Some []) None ≡ None
+no_kinds true ws e = absurd cc
+no_kinds false ws e = refl
+
+no_list : (p : Part) (ws : List (List ℕ)) → taken_list p ws ≡ None → behind_list p ws ≡ None
+no_list Kinds ws e = no_kinds (are_kinds KindWord ws && nat_le (count_or ws) 3) ws e
+no_list p ws e = absurd cc
+
+none_case : (b : Bool) (p : Part) (ws : List (List ℕ)) → cond b (taken_list p ws) (taken_one p ws) ≡ None → cond b (behind_list p ws) (behind_one p ws) ≡ None
+none_case true p ws e = no_list p ws e
 none_case false p [] e = refl
 none_case false p (w ∷ ws) e = none_one (fits p w) ws e
 
 -- ---- one part more
 
 pub matches_none : (p : Part) (ps : List Part) (ws : List (List ℕ)) → taken_by p ws ≡ None → matches (p ∷ ps) ws ≡ false
-matches_none p ps ws e = ap (λ (o : Option (List (List ℕ))). unwrap_or (option_map (λ rest. matches ps rest) o) false) (none_case (are_items p) p ws e)
+matches_none p ps ws e = ap (λ (o : Option (List (List ℕ))). unwrap_or (option_map (λ rest. matches ps rest) o) false) (none_case (is_list p) p ws e)
 
 pub matches_some : (p : Part) (ps : List Part) (ws : List (List ℕ)) (n : ℕ) → taken_by p ws ≡ Some n → matches (p ∷ ps) ws ≡ matches ps (drop n ws)
-matches_some p ps ws n e = ap (λ (o : Option (List (List ℕ))). unwrap_or (option_map (λ rest. matches ps rest) o) false) (behind_case (are_items p) p ws n e)
+matches_some p ps ws n e = ap (λ (o : Option (List (List ℕ))). unwrap_or (option_map (λ rest. matches ps rest) o) false) (behind_case (is_list p) p ws n e)
 
 pub spots_some : (p : Part) (ps : List Part) (ws : List (List ℕ)) (n : ℕ) → taken_by p ws ≡ Some n → spots_of (p ∷ ps) ws ≡ spots_at p ws ++ spots_of ps (drop n ws)
-spots_some p ps ws n e = ap (λ (o : Option (List (List ℕ))). spots_at p ws ++ spots_of ps (unwrap_or o [])) (behind_case (are_items p) p ws n e)
+spots_some p ps ws n e = ap (λ (o : Option (List (List ℕ))). spots_at p ws ++ spots_of ps (unwrap_or o [])) (behind_case (is_list p) p ws n e)
 
 -- ---- in the loop over the parts
 

@@ -1,4 +1,4 @@
--- The forms that a line can have whose first word begins with a byte are enough, and of those without items the ones
+-- The forms that a line can have whose first word begins with a byte are enough, and of those without a list the ones
 -- with as many parts as it has words.
 use Rattle.std.proofs.Common.{◌≡◌, ℕ, suc, List, [], ◌∷◌, ◌++◌, length, Bool, true, false, cond, eqb, Option, Some, None, refl, sym, ap, ◌∙◌}
 use Rattle.std.proofs.lemmas.Bool.{and_parts, false_from_ne_true, or_parts, true≢false}
@@ -8,8 +8,8 @@ use Rattle.std.specs.Str.{bytes_eq}
 use Rattle.rc_read.specs.declared.table.Part.{Part}
 use Rattle.rc_read.specs.declared.table.Part.TheVariants.{Fixed}
 use Rattle.rc_read.specs.declared.table.Row.{Row}
-use Rattle.rc_read.specs.Quick.{starts_with, may_begin, beginning, first_byte, has_items}
-use Rattle.rc_read.specs.Spots.{are_items, behind_items, behind_one, fits, matches, first_row}
+use Rattle.rc_read.specs.Quick.{starts_with, may_begin, beginning, first_byte, has_list}
+use Rattle.rc_read.specs.Spots.{behind_list, behind_one, first_row, fits, is_list, matches}
 use Rattle.rc_read.specs.Table.{assignments, fixed_rows, parts_of, rows, text_of}
 
 -- ---- the first word of a line begins as its form does
@@ -53,25 +53,25 @@ pub rows_found : (n : ℕ) (ws : List (List ℕ)) (o : Option Row) → n ≡ fir
 rows_found n ws o e f =
     sym (rows_then fixed_rows assignments ws o (sym (f ∙ ap (λ (k : ℕ). first_row (beginning k fixed_rows) ws) e ∙ rows_by fixed_rows ws)))
 
--- ---- a form without items has as many parts as its line has words
+-- ---- a form without a list has as many parts as its line has words
 
 behind_is : (f : Bool) (parts : List Part) (ws : List (List ℕ)) → unwrap_or (option_map (λ rest. matches parts rest) (cond f (Some ws) None)) false ≡ true → matches parts ws ≡ true
 behind_is true parts ws h = h
 behind_is false parts ws h = absurd cc
 
-one_more : (b : Bool) (p : Part) (parts : List Part) (ws : List (List ℕ)) → ((vs : List (List ℕ)) → matches parts vs ≡ true → length parts ≡ length vs) → b ≡ false → unwrap_or (option_map (λ rest. matches parts rest) (cond b (Some (behind_items ws)) (behind_one p ws))) false ≡ true → suc (length parts) ≡ length ws
+one_more : (b : Bool) (p : Part) (parts : List Part) (ws : List (List ℕ)) → ((vs : List (List ℕ)) → matches parts vs ≡ true → length parts ≡ length vs) → b ≡ false → unwrap_or (option_map (λ rest. matches parts rest) (cond b (behind_list p ws) (behind_one p ws))) false ≡ true → suc (length parts) ≡ length ws
 one_more true p parts ws k n h = absurd cc
 one_more false p parts [] k n h = absurd cc
 one_more false p parts (w ∷ ws) k n h = ap suc (k ws (behind_is (fits p w) parts ws h))
 
-counts : (parts : List Part) (ws : List (List ℕ)) → has_items parts ≡ false → matches parts ws ≡ true → length parts ≡ length ws
+counts : (parts : List Part) (ws : List (List ℕ)) → has_list parts ≡ false → matches parts ws ≡ true → length parts ≡ length ws
 counts [] [] n h = refl
 counts [] (w ∷ ws) n h = absurd cc
 counts (p ∷ parts) ws n h =
-    let e = or_parts (are_items p) (has_items parts) n in
-    one_more (are_items p) p parts ws (λ vs g. counts parts vs e.1 g) e.0 h
+    let e = or_parts (is_list p) (has_list parts) n in
+    one_more (is_list p) p parts ws (λ vs g. counts parts vs e.1 g) e.0 h
 
-pub none_of_others : (parts : List Part) (ws : List (List ℕ)) → ¬ (length parts ≡ length ws) → has_items parts ≡ false → matches parts ws ≡ false
+pub none_of_others : (parts : List Part) (ws : List (List ℕ)) → ¬ (length parts ≡ length ws) → has_list parts ≡ false → matches parts ws ≡ false
 none_of_others parts ws ne n = by_case (matches parts ws) (counts parts ws n)
   where
     by_case : (m : Bool) → (m ≡ true → length parts ≡ length ws) → m ≡ false

@@ -11,7 +11,7 @@ use Rattle.rc_read.specs.declared.noted.Noted.{Noted}
 use Rattle.rc_read.specs.declared.noted.Wrong.{Wrong}
 use Rattle.rc_read.specs.declared.values.Value.{Value}
 use Rattle.rc_read.specs.Says.{says_of}
-use Rattle.rc_read.specs.Sentences.{is_unknown, any_unknown, is_double, any_double, any_named_twice, bad_brace, is_too_long, is_too_deep, is_full, any_full, bad_nesting, bad_case, other_flag, sentences, word_sentences, first_true}
+use Rattle.rc_read.specs.Sentences.{is_unknown, any_unknown, is_double, any_double, any_named_twice, repeats_kind, bad_brace, is_too_long, is_too_deep, is_full, any_full, bad_nesting, bad_case, other_flag, sentences, word_sentences, first_true}
 use Rattle.rc_read.specs.Sheets.{Sheet, with_names}
 use Rattle.rc_read.specs.Spots.{Spot, spots_of}
 use Rattle.rc_read.specs.Table.{parts_of}
@@ -28,7 +28,7 @@ wrong_in s spots = record { unknown = any_unknown s spots; double = any_double s
 abbrev pub later_sentences : Sheet → List ℕ → Wrong → List Item → Says → List (ℕ × Bool)
 later_sentences s line wrong items what =
     (5, wrong.unknown)
-    ∷ (6, wrong.double || any_named_twice items)
+    ∷ (6, wrong.double || any_named_twice items || repeats_kind what)
     ∷ (7, bad_brace s what)
     ∷ (8, is_too_long s line || is_too_deep s what || wrong.full || nat_lt 64 (length s.draft.names))
     ∷ (9, bad_nesting s.draft.blocks items what)

@@ -1,11 +1,12 @@
 -- What a line says, form by form, given what is in its places.
-use Rattle.std.specs.Prelude.{ℕ, ◌*◌, ◌==◌, true, false, List, slice_get, Option, Some, None, ℤ, pos}
+use Rattle.std.specs.Prelude.{ℕ, ◌*◌, ◌==◌, true, false, List, [], ◌∷◌, slice_get, Option, Some, None, unwrap_or, ℤ, pos}
 use Rattle.rc_lang.specs.declared.lines.Comparison.{Comparison}
 use Rattle.rc_lang.specs.declared.lines.Comparison.TheVariants.{Equal}
 use Rattle.rc_lang.specs.declared.lines.Op.TheVariants as op
 use Rattle.rc_lang.specs.declared.lines.Operand.{Operand as OperandOf}
 use Rattle.rc_lang.specs.declared.lines.Operand.TheVariants.{Variable, Number}
 use Rattle.rc_lang.specs.declared.lines.Test.TheVariants as test
+use Rattle.rc_lang.specs.declared.program.TokenKind.{TokenKind}
 use Rattle.rc_lang.specs.declared.program.TokenKind.TheVariants as kind
 use Rattle.rc_lang.specs.Locks.{both_locks}
 use Rattle.rc_read.specs.declared.says.Says.{Says}
@@ -14,7 +15,7 @@ use Rattle.rc_read.specs.declared.table.Row.{Row}
 use Rattle.rc_read.specs.declared.table.Row.TheVariants as row
 use Rattle.rc_read.specs.declared.values.Value.{Value}
 use Rattle.rc_read.specs.declared.values.Value.TheVariants.{Small, UserData, Named, Operand, Compares}
-use Rattle.rc_read.specs.Values.{rounded_up}
+use Rattle.rc_read.specs.Values.{kinds_named, rounded_up}
 
 abbrev pub as_small : Option Value → ℕ
 as_small (Some (Small n)) = n
@@ -72,6 +73,13 @@ abbrev pub sets : ℕ → OperandOf → Says
 sets x (Variable y) = says.Op (op.Assign x y)
 sets x (Number n) = says.Op (op.Set x n)
 
+-- a token of one kind, and one of one to four
+abbrev pub of_one : ℕ → TokenKind → Says
+of_one u kind = says.Token (record { user_data = u; kind = kind; others = None ∷ None ∷ None ∷ [] })
+
+abbrev pub of_kinds : ℕ → List TokenKind → Says
+of_kinds u kinds = says.Token (record { user_data = u; kind = unwrap_or (slice_get kinds 0) kind.Nop; others = slice_get kinds 1 ∷ slice_get kinds 2 ∷ slice_get kinds 3 ∷ [] })
+
 abbrev pub says_of : Row → List Value → Says
 says_of row.Version v = says.Version 1
 says_of row.SecondVersion v = says.Version 2
@@ -84,11 +92,12 @@ says_of row.RingLeft v = with_rings (small v 0) (small v 1)
 says_of row.RingCqLeft v = with_both (small v 0) (small v 1) (small v 2)
 says_of row.File v = says.File (record { number = small v 0; len = small v 1 })
 says_of row.Buffer v = says.Buffer (small v 1) (small v 2)
-says_of row.TokenRead v = says.Token (record { user_data = user_data v 0; kind = kind.Read (named v 1) })
-says_of row.TokenWrite v = says.Token (record { user_data = user_data v 0; kind = kind.Write (named v 1) (small v 2) })
-says_of row.TokenFsync v = says.Token (record { user_data = user_data v 0; kind = kind.Fsync })
-says_of row.TokenNop v = says.Token (record { user_data = user_data v 0; kind = kind.Nop })
-says_of row.TokenOther v = says.Token (record { user_data = user_data v 0; kind = kind.Other })
+says_of row.TokenRead v = of_one (user_data v 0) (kind.Read (named v 1))
+says_of row.TokenWrite v = of_one (user_data v 0) (kind.Write (named v 1) (small v 2))
+says_of row.TokenFsync v = of_one (user_data v 0) kind.Fsync
+says_of row.TokenNop v = of_one (user_data v 0) kind.Nop
+says_of row.TokenOther v = of_one (user_data v 0) kind.Other
+says_of row.TokenKinds v = of_kinds (user_data v 0) (kinds_named v)
 says_of row.Pool v = says.Pool
 says_of row.Thread v = says.Thread
 says_of row.Set v = sets (named v 0) (operand v 1)
@@ -112,6 +121,7 @@ says_of row.PrepOther v = says.Op op.PrepOther
 says_of row.SetData64 v = says.Op (op.SetData64 (user_data v 0))
 says_of row.Submit v = says.Op (op.Submit (named v 0))
 says_of row.SubmitAndWait v = says.Op (op.SubmitAndWait (named v 0) (small v 1))
+says_of row.CqeGetData64 v = says.Op op.CqeGetData64
 says_of row.CqeSeen v = says.Op op.CqeSeen
 says_of row.Peek v = says.Peek (named v 0)
 says_of row.Case v = says.Case (user_data v 0)

@@ -2,13 +2,15 @@
 use Rattle.std.specs.Prelude.{ℕ, List, [], ◌∷◌, length, take, Option, Some, None, Bool, true, false, ◌&&◌, ◌||◌, not, ◌==◌, nat_lt, nat_le, is_none, if◌then◌else◌, codes}
 use Rattle.std.specs.List.{list_any}
 use Rattle.std.specs.Str.{bytes_eq}
+use Rattle.rc_lang.specs.Kinds.{is_one_kind, kinds_in}
 use Rattle.rc_lang.specs.Nesting.{breaks_order, innermost, in_peek, directly_in_peek, locks_in, way_out}
 use Rattle.rc_lang.specs.declared.lines.Block.{Block}
 use Rattle.rc_lang.specs.declared.lines.Block.TheVariants.{InIf}
+use Rattle.rc_lang.specs.declared.program.TokenKind.{TokenKind}
 use Rattle.rc_read.specs.declared.parts.Region.{Region}
 use Rattle.rc_read.specs.declared.parts.Region.TheVariants.{Start, Second, Declarations, InThread, Between}
 use Rattle.rc_read.specs.declared.says.Says.{Says}
-use Rattle.rc_read.specs.declared.says.Says.TheVariants.{Thread, Op, Put, Lock, If, Take, Else, Peek, Case, Other, Nothing, Loop, Break, Close}
+use Rattle.rc_read.specs.declared.says.Says.TheVariants.{Token, Thread, Op, Put, Lock, If, Take, Else, Peek, Case, Other, Nothing, Loop, Break, Close}
 use Rattle.rc_read.specs.declared.table.Part.{Part}
 use Rattle.rc_read.specs.declared.table.Part.TheVariants as part
 use Rattle.rc_read.specs.declared.table.Row.{Row}
@@ -82,6 +84,7 @@ lacks_token s (Some u) = not (has_token s.tokens u)
 abbrev pub is_unknown : Sheet → Part → List ℕ → Bool
 is_unknown s part.File w = lacks_file s (file_number_of w)
 is_unknown s part.Buffer w = not (is_among (buffer_names s.buffers) w)
+is_unknown s part.ReadBuffer w = not (is_among (buffer_names s.buffers) w)
 is_unknown s part.Pool w = not (is_among s.pools w)
 is_unknown s part.Token w = lacks_token s (user_data_of w)
 is_unknown s part.HeldToken w = lacks_token s (user_data_of w)
@@ -90,7 +93,7 @@ is_unknown s _ w = false
 abbrev pub any_unknown : Sheet → List Spot → Bool
 any_unknown s ps = list_any (λ (p : Spot). is_unknown s p.part p.word) ps
 
--- ---- P6: a file, a buffer, a token, a pool or a thread declared twice, an item named twice in a list, a token in both
+-- ---- P6: a file, a buffer, a token, a pool or a thread declared twice, an item named twice in a list, a token in both, two kinds of one word and one buffer
 
 abbrev pub repeats_file : Sheet → Option ℕ → Bool
 repeats_file s None = false
@@ -134,6 +137,14 @@ any_in_both more is = list_any (λ i. is_token i && list_any (names_same i) is) 
 
 abbrev pub any_named_twice : List Item → Bool
 any_named_twice is = any_twice (before_when is) || any_twice (behind_when is) || any_in_both (behind_when is) (before_when is)
+
+abbrev pub any_kind_twice : List TokenKind → Bool
+any_kind_twice [] = false
+any_kind_twice (k ∷ ks) = list_any (is_one_kind k) ks || any_kind_twice ks
+
+abbrev pub repeats_kind : Says → Bool
+repeats_kind (Token t) = any_kind_twice (kinds_in t)
+repeats_kind _ = false
 
 -- ---- P7: a closing brace without an open block, an else that closes no first branch, a thread in a thread
 
@@ -235,7 +246,7 @@ form_sentences s line ws =
     ∷ (3, bad_line s.region (form_in s ws))
     ∷ (4, any_lacks (with_names s (places_in s ws)) start (places_in s ws))
     ∷ (5, any_unknown s (places_in s ws))
-    ∷ (6, any_double s (places_in s ws) || any_named_twice (items s ws))
+    ∷ (6, any_double s (places_in s ws) || any_named_twice (items s ws) || repeats_kind (says s ws))
     ∷ (7, bad_brace s (says s ws))
     ∷ (8, is_too_long s line || is_too_deep s (says s ws) || any_full s (places_in s ws) || has_too_many_names s (places_in s ws))
     ∷ (9, bad_nesting s.draft.blocks (items s ws) (says s ws))

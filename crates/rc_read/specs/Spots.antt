@@ -6,8 +6,9 @@ use Rattle.rc_lang.specs.declared.lines.Comparison.{Comparison}
 use Rattle.rc_lang.specs.declared.lines.Comparison.TheVariants.{Equal, NotEqual, Less, AtMost, Greater, AtLeast}
 use Rattle.rc_lang.specs.Names.{is_name, is_reserved_by}
 use Rattle.rc_lang.specs.Numbers.{is_digit}
+use Rattle.rc_read.specs.declared.fixed.Word.TheVariants.{Or}
 use Rattle.rc_read.specs.declared.table.Part.{Part}
-use Rattle.rc_read.specs.declared.table.Part.TheVariants.{Fixed, Variable, Operand, Comparison as Compare, Buffer, Pool, NewBuffer, NewPool, NewThread, Items, Flag, HeldShares, HeldToken, Credits, Queued}
+use Rattle.rc_read.specs.declared.table.Part.TheVariants.{Fixed, Variable, Operand, Comparison as Compare, Buffer, Pool, NewBuffer, NewPool, NewThread, Items, Flag, HeldShares, HeldToken, Credits, Queued, Kinds, KindWord, ReadBuffer, WriteShares}
 use Rattle.rc_read.specs.declared.table.Row.{Row}
 use Rattle.rc_read.specs.Table.{text_of, parts_of, rows, version_of}
 
@@ -27,6 +28,10 @@ abbrev pub begins_number : List ℕ → Bool
 begins_number [] = false
 begins_number (b ∷ bytes) = is_digit b || b == 45
 
+-- a kind's first word
+abbrev pub is_kind_word : List ℕ → Bool
+is_kind_word w = bytes_eq w (codes "read") || bytes_eq w (codes "write") || bytes_eq w (codes "fsync") || bytes_eq w (codes "nop") || bytes_eq w (codes "other")
+
 -- In a place for a name is a name, and in one for a number any word.
 abbrev pub fits : Part → List ℕ → Bool
 fits (Fixed fixed) w = bytes_eq w (text_of fixed)
@@ -39,6 +44,8 @@ fits NewPool w = is_name w
 fits NewThread w = is_name w
 fits Operand w = begins_number w || is_name w
 fits Compare w = is_some (comparison_of w)
+fits KindWord w = is_kind_word w
+fits ReadBuffer w = is_name w
 fits _ w = true
 
 -- ---- items
@@ -86,19 +93,63 @@ abbrev pub behind_items : List (List ℕ) → List (List ℕ)
 behind_items [] = []
 behind_items (w ∷ ws) = if is_item w then behind_items ws else w ∷ ws
 
--- ---- lines
+-- ---- one word
 
-abbrev pub are_items : Part → Bool
-are_items Items = true
-are_items _ = false
+abbrev pub is_fixed : Part → Bool
+is_fixed (Fixed fixed) = true
+is_fixed _ = false
 
--- The words after those of a part, where they are there.
+-- The place of a part's word. A fixed word has none.
+abbrev pub spot_of_part : Part → List (List ℕ) → List Spot
+spot_of_part part [] = []
+spot_of_part part (w ∷ ws) = if is_fixed part then [] else record { part = part; word = w } ∷ []
+
+-- The words after it, where it is there.
 abbrev pub behind_one : Part → List (List ℕ) → Option (List (List ℕ))
 behind_one part [] = None
 behind_one part (w ∷ ws) = if fits part w then Some ws else None
 
+-- ---- kinds: `read B`, `write B K`, `fsync`, `nop` and `other`, with `or` between two
+
+-- The part of the word after this one.
+abbrev pub part_after : Part → List ℕ → Part
+part_after KindWord w = if bytes_eq w (codes "read") then ReadBuffer else (if bytes_eq w (codes "write") then Buffer else Fixed Or)
+part_after Buffer w = WriteShares
+part_after (Fixed fixed) w = KindWord
+part_after _ w = Fixed Or
+
+-- From this part on the words are those of kinds, and with the last a kind is whole.
+abbrev pub are_kinds : Part → List (List ℕ) → Bool
+are_kinds part [] = is_fixed part
+are_kinds part (w ∷ ws) = fits part w && are_kinds (part_after part w) ws
+
+abbrev pub count_or : List (List ℕ) → ℕ
+count_or [] = 0
+count_or (w ∷ ws) = if bytes_eq w (codes "or") then count_or ws + 1 else count_or ws
+
+-- At most four kinds end the line.
+abbrev pub behind_kinds : List (List ℕ) → Option (List (List ℕ))
+behind_kinds ws = if are_kinds KindWord ws && nat_le (count_or ws) 3 then Some [] else None
+
+abbrev pub spots_of_kinds : Part → List (List ℕ) → List Spot
+spots_of_kinds part [] = []
+spots_of_kinds part (w ∷ ws) = spot_of_part part (w ∷ ws) ++ spots_of_kinds (part_after part w) ws
+
+-- ---- lines
+
+-- A list of words is in this part, and one word in each other.
+abbrev pub is_list : Part → Bool
+is_list Items = true
+is_list Kinds = true
+is_list _ = false
+
+abbrev pub behind_list : Part → List (List ℕ) → Option (List (List ℕ))
+behind_list Kinds ws = behind_kinds ws
+behind_list _ ws = Some (behind_items ws)
+
+-- The words after those of a part, where they are there.
 abbrev pub behind : Part → List (List ℕ) → Option (List (List ℕ))
-behind part ws = if are_items part then Some (behind_items ws) else behind_one part ws
+behind part ws = if is_list part then behind_list part ws else behind_one part ws
 
 abbrev pub is_end : List (List ℕ) → Bool
 is_end [] = true
@@ -109,17 +160,13 @@ abbrev pub matches : List Part → List (List ℕ) → Bool
 matches [] ws = is_end ws
 matches (part ∷ parts) ws = unwrap_or (option_map (λ rest. matches parts rest) (behind part ws)) false
 
--- The places of a part's words. A fixed word has none.
-abbrev pub is_fixed : Part → Bool
-is_fixed (Fixed fixed) = true
-is_fixed _ = false
-
-abbrev pub spot_of_part : Part → List (List ℕ) → List Spot
-spot_of_part part [] = []
-spot_of_part part (w ∷ ws) = if is_fixed part then [] else record { part = part; word = w } ∷ []
+-- The places of a part's words.
+abbrev pub spots_of_list : Part → List (List ℕ) → List Spot
+spots_of_list Kinds ws = spots_of_kinds KindWord ws
+spots_of_list _ ws = spots_of_items ws
 
 abbrev pub spots_at : Part → List (List ℕ) → List Spot
-spots_at part ws = if are_items part then spots_of_items ws else spot_of_part part ws
+spots_at part ws = if is_list part then spots_of_list part ws else spot_of_part part ws
 
 -- The places of a line, from the left.
 abbrev pub spots_of : List Part → List (List ℕ) → List Spot
@@ -138,6 +185,7 @@ has_name Pool = true
 has_name NewBuffer = true
 has_name NewPool = true
 has_name NewThread = true
+has_name ReadBuffer = true
 has_name _ = false
 
 -- In the place of a name is a word that this version reserves.

@@ -2,7 +2,7 @@
 -- form, and where in a model it may be.
 use Rattle.std.specs.Prelude.{ℕ, List, [], ◌∷◌, ◌++◌, codes}
 use Rattle.rc_read.specs.declared.table.Part.{Part}
-use Rattle.rc_read.specs.declared.table.Part.TheVariants.{Fixed, Variable, Operand, Comparison, Signed, Number, File, Buffer, Token, Pool, NewFile, NewBuffer, NewToken, NewPool, NewThread, Items, Flag}
+use Rattle.rc_read.specs.declared.table.Part.TheVariants.{Fixed, Variable, Operand, Comparison, Signed, Number, File, Buffer, Token, Pool, NewFile, NewBuffer, NewToken, NewPool, NewThread, Items, Flag, Kinds}
 use Rattle.rc_read.specs.declared.table.Range.TheVariants.{Within, Size, CompletionSize, Rounded, Entries, Shares}
 use Rattle.rc_read.specs.declared.table.Row.{Row}
 use Rattle.rc_read.specs.declared.table.Row.TheVariants as row
@@ -31,6 +31,7 @@ text_of words.Read = codes "read"
 text_of words.Write = codes "write"
 text_of words.Fsync = codes "fsync"
 text_of words.Nop = codes "nop"
+text_of words.Or = codes "or"
 text_of words.Thread = codes "thread"
 text_of words.Holds = codes "holds"
 text_of words.Open = codes "{"
@@ -53,6 +54,7 @@ text_of words.PrepOther = codes "prep_other"
 text_of words.SetData64 = codes "set_data64"
 text_of words.Submit = codes "submit"
 text_of words.SubmitAndWait = codes "submit_and_wait"
+text_of words.CqeGetData64 = codes "cqe_get_data64"
 text_of words.CqeSeen = codes "cqe_seen"
 text_of words.PeekCqe = codes "peek_cqe"
 text_of words.Case = codes "case"
@@ -92,6 +94,7 @@ parts_of row.TokenWrite = Fixed words.Token ∷ NewToken ∷ Fixed words.Write �
 parts_of row.TokenFsync = Fixed words.Token ∷ NewToken ∷ Fixed words.Fsync ∷ []
 parts_of row.TokenNop = Fixed words.Token ∷ NewToken ∷ Fixed words.Nop ∷ []
 parts_of row.TokenOther = Fixed words.Token ∷ NewToken ∷ Fixed words.Other ∷ []
+parts_of row.TokenKinds = Fixed words.Token ∷ NewToken ∷ Kinds ∷ []
 parts_of row.Pool = Fixed words.Pool ∷ NewPool ∷ []
 parts_of row.Thread = Fixed words.Thread ∷ NewThread ∷ Fixed words.Holds ∷ Items ∷ Fixed words.Open ∷ []
 parts_of row.Set = Variable ∷ Fixed words.Is ∷ Operand ∷ []
@@ -115,6 +118,7 @@ parts_of row.PrepOther = Fixed words.PrepOther ∷ []
 parts_of row.SetData64 = Fixed words.SetData64 ∷ Token ∷ []
 parts_of row.Submit = Variable ∷ Fixed words.Is ∷ Fixed words.Submit ∷ []
 parts_of row.SubmitAndWait = Variable ∷ Fixed words.Is ∷ Fixed words.SubmitAndWait ∷ Number (Within 0 2048) ∷ []
+parts_of row.CqeGetData64 = Fixed words.CqeGetData64 ∷ []
 parts_of row.CqeSeen = Fixed words.CqeSeen ∷ []
 parts_of row.Peek = Fixed words.PeekCqe ∷ Variable ∷ Fixed words.Open ∷ []
 parts_of row.Case = Fixed words.Case ∷ Token ∷ Fixed words.Open ∷ []
@@ -143,7 +147,9 @@ version_of row.LockSq = 4
 version_of row.LockCq = 4
 version_of row.IfTakeNamed = 4
 version_of row.TokenOther = 5
+version_of row.TokenKinds = 5
 version_of row.PrepOther = 5
+version_of row.CqeGetData64 = 5
 version_of row.IfAny = 5
 version_of _ = 1
 
@@ -164,6 +170,7 @@ stand_of row.TokenWrite = stand.Declaration
 stand_of row.TokenFsync = stand.Declaration
 stand_of row.TokenNop = stand.Declaration
 stand_of row.TokenOther = stand.Declaration
+stand_of row.TokenKinds = stand.Declaration
 stand_of row.Pool = stand.Declaration
 stand_of row.Thread = stand.Header
 stand_of row.Else = stand.Brace
@@ -173,9 +180,9 @@ stand_of _ = stand.Inside
 -- The forms whose first word is fixed, those that begin with a variable, and all, in the order in which they are tried.
 abbrev pub fixed_rows : List Row
 fixed_rows =
-    row.Close ∷ row.Else ∷ row.Break ∷ row.GetSqe ∷ row.CqeSeen ∷ row.Case ∷ row.PrepNop ∷ row.PrepOther ∷ row.Peek ∷ row.Print ∷ row.PrepRead ∷ row.PrepWrite
+    row.Close ∷ row.Else ∷ row.Break ∷ row.GetSqe ∷ row.CqeSeen ∷ row.Case ∷ row.CqeGetData64 ∷ row.PrepNop ∷ row.PrepOther ∷ row.Peek ∷ row.Print ∷ row.PrepRead ∷ row.PrepWrite
     ∷ row.PrepFsync ∷ row.Put ∷ row.PutNamed ∷ row.Pool ∷ row.Lock ∷ row.Loop ∷ row.LoopWhen ∷ row.LockSq ∷ row.LockCq ∷ row.Other ∷ row.Nothing ∷ row.SetData64 ∷ row.Store ∷ row.Fill ∷ row.IfReady ∷ row.If ∷ row.IfSpace ∷ row.IfTake ∷ row.IfTakeNamed ∷ row.IfAny
-    ∷ row.Thread ∷ row.TokenRead ∷ row.TokenWrite ∷ row.TokenFsync ∷ row.TokenNop ∷ row.TokenOther ∷ row.File ∷ row.Buffer ∷ row.Ring ∷ row.RingCq ∷ row.RingLeft
+    ∷ row.Thread ∷ row.TokenRead ∷ row.TokenWrite ∷ row.TokenFsync ∷ row.TokenNop ∷ row.TokenOther ∷ row.TokenKinds ∷ row.File ∷ row.Buffer ∷ row.Ring ∷ row.RingCq ∷ row.RingLeft
     ∷ row.RingCqLeft ∷ row.Version ∷ row.SecondVersion ∷ row.ThirdVersion ∷ row.FourthVersion ∷ row.FifthVersion ∷ []
 
 abbrev pub assignments : List Row

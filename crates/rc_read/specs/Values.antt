@@ -3,6 +3,8 @@ use Rattle.std.specs.Prelude.{ℕ, ◌+◌, ◌-◌, ◌^◌, List, [], ◌∷�
 use Rattle.std.specs.Str.{bytes_eq}
 use Rattle.rc_lang.specs.declared.lines.Comparison.{Comparison}
 use Rattle.rc_lang.specs.declared.lines.Operand.TheVariants as operand
+use Rattle.rc_lang.specs.declared.program.TokenKind.{TokenKind}
+use Rattle.rc_lang.specs.declared.program.TokenKind.TheVariants as kind
 use Rattle.rc_lang.specs.Numbers.{is_number, number_of, signed_number_of}
 use Rattle.rc_read.specs.declared.table.Part.{Part}
 use Rattle.rc_read.specs.declared.table.Part.TheVariants as part
@@ -12,7 +14,7 @@ use Rattle.rc_read.specs.declared.values.Item.{Item as ItemOf}
 use Rattle.rc_read.specs.declared.values.Item.TheVariants as item
 use Rattle.rc_read.specs.declared.values.Seen.{Seen}
 use Rattle.rc_read.specs.declared.values.Value.{Value}
-use Rattle.rc_read.specs.declared.values.Value.TheVariants.{Nothing, Small, UserData, Named, Operand, Compares, Item}
+use Rattle.rc_read.specs.declared.values.Value.TheVariants.{Nothing, Small, UserData, Named, Operand, Compares, Item, Kind}
 use Rattle.rc_read.specs.Sheets.{Sheet, number_in, buffer_number, shares_in}
 use Rattle.rc_read.specs.Spots.{Spot, begins_number, comparison_of}
 
@@ -76,6 +78,17 @@ abbrev pub comparison_value : Option Comparison → Value
 comparison_value None = Nothing
 comparison_value (Some c) = Compares c
 
+-- the kind that a word is without a buffer
+abbrev pub kind_alone : List ℕ → Value
+kind_alone w =
+    if bytes_eq w (codes "fsync") then Kind kind.Fsync
+    else (if bytes_eq w (codes "nop") then Kind kind.Nop
+    else (if bytes_eq w (codes "other") then Kind kind.Other else Nothing))
+
+-- a write of the buffer before
+abbrev pub write_value : Seen → Option ℕ → Option Value
+write_value seen n = option_map (λ k. Kind (kind.Write seen.buffer k)) n
+
 -- What the word of a place says; none where the place is a number's and the word is no number or is out of its range.
 abbrev pub value_at : Sheet → Seen → Part → List ℕ → Option Value
 value_at s seen part.Variable w = Some (Named (number_in s.draft.names w))
@@ -94,6 +107,9 @@ value_at s seen part.HeldShares w = item_value (item.Shares seen.buffer) (number
 value_at s seen part.HeldToken w = item_value item.Token (user_data_of w)
 value_at s seen part.Credits w = item_value item.Credits (number_of 0 2048 w)
 value_at s seen part.Queued w = item_value item.Queued (number_of 0 s.head.entries w)
+value_at s seen part.KindWord w = Some (kind_alone w)
+value_at s seen part.ReadBuffer w = Some (Kind (kind.Read (buffer_number s.buffers w)))
+value_at s seen part.WriteShares w = write_value seen (share_number seen.shares w)
 value_at s seen _ w = Some Nothing
 
 -- What a place says of those after it: the entries of a submission ring, and a buffer.
@@ -125,6 +141,12 @@ abbrev pub items_in : List Value → List ItemOf
 items_in [] = []
 items_in (Item i ∷ vs) = i ∷ items_in vs
 items_in (v ∷ vs) = items_in vs
+
+-- the kinds that it names
+abbrev pub kinds_named : List Value → List TokenKind
+kinds_named [] = []
+kinds_named (Kind k ∷ vs) = k ∷ kinds_named vs
+kinds_named (v ∷ vs) = kinds_named vs
 
 -- ---- the two lists of a line, before `when` and after it
 

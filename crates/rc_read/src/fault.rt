@@ -20,8 +20,8 @@ pub enum ReadCause {
     BadNumber,
     /// A file, a buffer, a token or a pool that isn't declared above.
     UnknownName,
-    /// A file, a buffer, a token, a pool or a thread declared twice, an item named twice in a list, or a token in both
-    /// of a line.
+    /// A file, a buffer, a token, a pool or a thread declared twice, an item named twice in a list, a token in both
+    /// of a line, or two kinds of a token of one word and one buffer.
     DoubleName,
     /// A closing brace without an open block, an else that closes no first branch, a thread in a thread, or a block
     /// that is open at the end of the model.

@@ -13,6 +13,7 @@ ghost use Rattle.rc_read.specs.View.{view_sheet};
 
 use crate::blocks::{bad_brace, bad_case, bad_nesting, is_too_deep, is_too_long, may_stand};
 use crate::fault::{ReadCause, ReadFault};
+use crate::kinds::repeats_kind;
 use crate::lists::{any_named_twice, flag_in};
 use crate::noted::{Wrong, put_values};
 use crate::parts::{Parts, Region};
@@ -108,7 +109,7 @@ fn later_cause(
 {
     if wrong.unknown {
         Some(ReadCause::UnknownName)
-    } else if wrong.double || any_named_twice(items) {
+    } else if wrong.double || any_named_twice(items) || repeats_kind(says) {
         Some(ReadCause::DoubleName)
     } else if bad_brace(parts, says) {
         Some(ReadCause::Braces)

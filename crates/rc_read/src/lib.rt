@@ -7,6 +7,7 @@ mod draft;
 mod fault;
 pub mod fixed;
 mod judge;
+pub mod kinds;
 pub mod laws;
 mod lists;
 mod names;

@@ -4,12 +4,13 @@ ghost use Rattle.std.specs.Prelude.{◌≡◌, ◌++◌, ◌∷◌, [], IfOk, On
 ghost use Rattle.rc_lang.specs.Numbers.{number_of as number_in_range};
 ghost use Rattle.rc_read.specs.Judging.{AddsNames, IsSeen, IsValue, IsWrong};
 ghost use Rattle.rc_read.specs.Sentences as sentences;
-ghost use Rattle.rc_read.specs.Sheets.{number_in};
+ghost use Rattle.rc_read.specs.Sheets.{buffer_number, number_in, shares_in};
 ghost use Rattle.rc_read.specs.Steps.{AddsName, PutsItems, PutsNames, PutsValues, TellsLack, TellsWrong};
 ghost use Rattle.rc_read.specs.Texts.{view_spots};
 ghost use Rattle.rc_read.specs.Values as spec;
 ghost use Rattle.rc_read.specs.View.{view_sheet};
 
+use crate::kinds::kind_alone;
 use crate::names::{add_name, find_buffer, find_pool, has_buffer, has_file, has_thread, has_token};
 use crate::parts::Parts;
 use crate::spots::{Spot, begins_number, comparison_of};
@@ -17,10 +18,11 @@ use crate::table::{Part, Range};
 use crate::values::{
     Item, Seen, Value, comparison_value, file_number_of, held_credits, held_queued, held_shares,
     held_token, number_at, signed_value, sized, small_number_of, small_value, start, user_data_of,
-    user_data_value,
+    user_data_value, write_value,
 };
 use crate::words::is;
 use rc_lang::lines::Operand;
+use rc_lang::program::TokenKind;
 use std::alloc::{AllocError, Global};
 
 fn lacks_file(parts: &Parts, number: Option<u32>) -> bool
@@ -113,16 +115,36 @@ impl Noted {
     }
 }
 
+// The number of a buffer, and its shares if it is declared. Notes whether it isn't.
+fn known_buffer(parts: &Parts, noted: &mut Noted, word: &[u8]) -> (usize, Option<u32>)
+    ensures number { result.0 ≡ buffer_number (view_sheet parts.now).buffers word.now }
+    ensures shares { result.1 ≡ shares_in (view_sheet parts.now).buffers word.now }
+    ensures seen { noted.new.seen ≡ noted.old.seen }
+    ensures wrong { IsWrong (view_sheet parts.now) Part.Buffer word.now noted.old noted.new }
+{
+    let (buffer, shares) = find_buffer(&parts.buffers, word);
+    noted.lack(shares.is_none());
+    (buffer, shares)
+}
+
 fn look_at_buffer(parts: &Parts, noted: &mut Noted, word: &[u8]) -> Option<Value>
     ensures value { IsValue (view_sheet parts.now) Part.Buffer word.now noted.old result }
     ensures seen { IsSeen (view_sheet parts.now) Part.Buffer word.now noted.old noted.new }
     ensures wrong { IsWrong (view_sheet parts.now) Part.Buffer word.now noted.old noted.new }
 {
-    let (buffer, shares) = find_buffer(&parts.buffers, word);
-    noted.lack(shares.is_none());
+    let (buffer, shares) = known_buffer(parts, noted, word);
     noted.seen.buffer = buffer;
     noted.seen.shares = shares;
     Some(Value::Named(buffer))
+}
+
+fn look_at_read_buffer(parts: &Parts, noted: &mut Noted, word: &[u8]) -> Option<Value>
+    ensures value { IsValue (view_sheet parts.now) Part.ReadBuffer word.now noted.old result }
+    ensures seen { noted.new.seen ≡ noted.old.seen }
+    ensures wrong { IsWrong (view_sheet parts.now) Part.ReadBuffer word.now noted.old noted.new }
+{
+    let (buffer, _) = known_buffer(parts, noted, word);
+    Some(Value::Kind(TokenKind::Read(buffer)))
 }
 
 fn look_at_pool(parts: &Parts, noted: &mut Noted, word: &[u8]) -> Option<Value>
@@ -249,7 +271,7 @@ fn look_at(
     ensures sheet { AddsName result parts.old part word.now parts.new }
 {
     Ok(match part {
-        Part::Fixed(_) | Part::Items => Some(Value::Nothing),
+        Part::Fixed(_) | Part::Items | Part::Kinds => Some(Value::Nothing),
         Part::Variable => Some(Value::Named(variable_of(alloc, parts, word)?)),
         Part::Operand => operand_of(alloc, parts, word)?,
         Part::Comparison => Some(comparison_value(comparison_of(word))),
@@ -273,6 +295,9 @@ fn look_at(
         Part::HeldToken => held_token(look_at_token(parts, noted, word)),
         Part::Credits => held_credits(word),
         Part::Queued => held_queued(parts.head.entries, word),
+        Part::KindWord => Some(kind_alone(word)),
+        Part::ReadBuffer => look_at_read_buffer(parts, noted, word),
+        Part::WriteShares => write_value(noted.seen, word),
     })
 }
 

@@ -1,10 +1,44 @@
-//! Which version has a form, and the order in which forms are tried.
+//! Where in a model a form may be, which version has it, and the order in which forms are tried.
 
 ghost use Rattle.std.specs.Prelude.{◌≡◌};
 ghost use Rattle.rc_read.specs.Quick.{beginning};
 ghost use Rattle.rc_read.specs.Table as spec;
 
-use crate::table::Row;
+use crate::table::{Row, Stand};
+
+/// Where a form may be.
+pub fn stand_of(row: Row) -> Stand
+    ensures { result ≡ spec.stand_of row }
+{
+    match row {
+        Row::Version | Row::SecondVersion | Row::ThirdVersion => Stand::First,
+        Row::FourthVersion | Row::FifthVersion => Stand::First,
+        Row::Ring | Row::RingCq | Row::RingLeft | Row::RingCqLeft => Stand::Second,
+        Row::File
+        | Row::Buffer
+        | Row::TokenRead
+        | Row::TokenWrite
+        | Row::TokenFsync
+        | Row::TokenNop
+        | Row::TokenOther
+        | Row::TokenKinds
+        | Row::Pool => Stand::Declaration,
+        Row::Thread => Stand::Header,
+        Row::Else | Row::Close => Stand::Brace,
+        Row::Set | Row::Add | Row::Subtract | Row::Load | Row::Store | Row::Fill => Stand::Inside,
+        Row::Print | Row::Lock | Row::GetSqe | Row::PrepRead | Row::PrepWrite => Stand::Inside,
+        Row::PrepFsync | Row::PrepNop | Row::SetData64 | Row::Submit => Stand::Inside,
+        Row::SubmitAndWait
+        | Row::CqeGetData64
+        | Row::CqeSeen
+        | Row::Peek
+        | Row::Case
+        | Row::Other => Stand::Inside,
+        Row::Nothing | Row::If | Row::IfReady | Row::IfSpace | Row::IfTake => Stand::Inside,
+        Row::Put | Row::Loop | Row::LoopWhen | Row::Break | Row::PutNamed => Stand::Inside,
+        Row::LockSq | Row::LockCq | Row::IfTakeNamed | Row::PrepOther | Row::IfAny => Stand::Inside,
+    }
+}
 
 /// The version of the notation from which on a form is in models.
 pub fn version_of(row: Row) -> u32
@@ -14,7 +48,7 @@ pub fn version_of(row: Row) -> u32
         Row::LoopWhen => 2,
         Row::Put | Row::IfTake => 3,
         Row::Pool | Row::PutNamed | Row::LockSq | Row::LockCq | Row::IfTakeNamed => 4,
-        Row::TokenOther | Row::PrepOther | Row::IfAny => 5,
+        Row::TokenOther | Row::TokenKinds | Row::PrepOther | Row::CqeGetData64 | Row::IfAny => 5,
         _ => 1,
     }
 }
@@ -27,7 +61,7 @@ pub fn rows_of(first: u8) -> &'static [Row]
         b'}' => &[Row::Close, Row::Else],
         b'b' => &[Row::Break, Row::Buffer],
         b'g' => &[Row::GetSqe],
-        b'c' => &[Row::CqeSeen, Row::Case],
+        b'c' => &[Row::CqeSeen, Row::Case, Row::CqeGetData64],
         b'p' => &[
             Row::PrepNop,
             Row::PrepOther,
@@ -66,6 +100,7 @@ pub fn rows_of(first: u8) -> &'static [Row]
             Row::TokenFsync,
             Row::TokenNop,
             Row::TokenOther,
+            Row::TokenKinds,
         ],
         b'r' => &[
             Row::Ring,

@@ -1,7 +1,8 @@
 //! What a line says.
 
-ghost use Rattle.std.specs.Prelude.{◌≡◌};
+ghost use Rattle.std.specs.Prelude.{◌≡◌, slice_get};
 ghost use Rattle.rc_read.specs.Says as spec;
+ghost use Rattle.rc_read.specs.Values.{kinds_named};
 
 use crate::table::Row;
 use crate::values::{Value, rounded_up};
@@ -138,6 +139,44 @@ fn locks(sq: bool, cq: bool) -> Says
     Says::Lock(Locks { sq, cq })
 }
 
+// A token of one kind.
+fn of_one(user_data: u64, kind: TokenKind) -> Says
+    ensures { result ≡ spec.of_one user_data kind }
+{
+    Says::Token(Token {
+        user_data,
+        kind,
+        others: [None, None, None],
+    })
+}
+
+// The kind with this number, from 0, that a line names.
+fn kind_at(values: &[Value], number: usize) -> Option<TokenKind>
+    ensures { result ≡ slice_get (kinds_named values.now) number }
+{
+    let mut left = number;
+    for value in values {
+        if let Value::Kind(kind) = *value {
+            if left == 0 {
+                return Some(kind);
+            }
+            left -= 1;
+        }
+    }
+    None
+}
+
+// A token of the kinds that a line names, up to four.
+fn of_kinds(user_data: u64, v: &[Value]) -> Says
+    ensures { result ≡ spec.of_kinds user_data (kinds_named v.now) }
+{
+    Says::Token(Token {
+        user_data,
+        kind: kind_at(v, 0).unwrap_or(TokenKind::Nop),
+        others: [kind_at(v, 1), kind_at(v, 2), kind_at(v, 3)],
+    })
+}
+
 /// What a line of this form says, given what its places say.
 pub fn says_of(row: Row, v: &[Value]) -> Says
     ensures { result ≡ spec.says_of row v.now }
@@ -157,26 +196,12 @@ pub fn says_of(row: Row, v: &[Value]) -> Says
             len: small(v, 1),
         }),
         Row::Buffer => Says::Buffer(small(v, 1), small(v, 2)),
-        Row::TokenRead => Says::Token(Token {
-            user_data: user_data(v, 0),
-            kind: TokenKind::Read(named(v, 1)),
-        }),
-        Row::TokenWrite => Says::Token(Token {
-            user_data: user_data(v, 0),
-            kind: TokenKind::Write(named(v, 1), small(v, 2)),
-        }),
-        Row::TokenFsync => Says::Token(Token {
-            user_data: user_data(v, 0),
-            kind: TokenKind::Fsync,
-        }),
-        Row::TokenNop => Says::Token(Token {
-            user_data: user_data(v, 0),
-            kind: TokenKind::Nop,
-        }),
-        Row::TokenOther => Says::Token(Token {
-            user_data: user_data(v, 0),
-            kind: TokenKind::Other,
-        }),
+        Row::TokenRead => of_one(user_data(v, 0), TokenKind::Read(named(v, 1))),
+        Row::TokenWrite => of_one(user_data(v, 0), TokenKind::Write(named(v, 1), small(v, 2))),
+        Row::TokenFsync => of_one(user_data(v, 0), TokenKind::Fsync),
+        Row::TokenNop => of_one(user_data(v, 0), TokenKind::Nop),
+        Row::TokenOther => of_one(user_data(v, 0), TokenKind::Other),
+        Row::TokenKinds => of_kinds(user_data(v, 0), v),
         Row::Pool => Says::Pool,
         Row::Thread => Says::Thread,
         Row::Set => sets(named(v, 0), operand(v, 1)),
@@ -206,6 +231,7 @@ pub fn says_of(row: Row, v: &[Value]) -> Says
         Row::SetData64 => Says::Op(Op::SetData64(user_data(v, 0))),
         Row::Submit => Says::Op(Op::Submit(named(v, 0))),
         Row::SubmitAndWait => Says::Op(Op::SubmitAndWait(named(v, 0), small(v, 1))),
+        Row::CqeGetData64 => Says::Op(Op::CqeGetData64),
         Row::CqeSeen => Says::Op(Op::CqeSeen),
         Row::Peek => Says::Peek(named(v, 0)),
         Row::Case => Says::Case(user_data(v, 0)),

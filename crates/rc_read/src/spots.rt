@@ -7,6 +7,7 @@ ghost use Rattle.rc_read.specs.Table.{parts_of as spec_parts_of, rows as all_row
 ghost use Rattle.rc_read.specs.Texts.{Adds, AddsIfSo, AddsSome, HasSpots, HasSpotsOfRow, texts_of, view_spots};
 
 use crate::fixed::text_of;
+use crate::kinds::{count_or, is_kind_word, part_after};
 use crate::reserved::is_reserved_by;
 use crate::table::{Part, Row, assignments, parts_of, rows_of, version_of};
 use crate::words::{is, is_name};
@@ -59,21 +60,33 @@ pub fn fits(part: Part, word: &[u8]) -> bool
     match part {
         Part::Fixed(fixed) => is(word, text_of(fixed)),
         Part::Variable | Part::Flag => is_name(word),
-        Part::Buffer | Part::Pool => is_name(word),
+        Part::Buffer | Part::ReadBuffer | Part::Pool => is_name(word),
         Part::NewBuffer | Part::NewPool | Part::NewThread => is_name(word),
         Part::Operand => begins_number(word) || is_name(word),
         Part::Comparison => comparison_of(word).is_some(),
+        Part::KindWord => is_kind_word(word),
         Part::Signed | Part::Number(_) | Part::File | Part::Token => true,
         Part::NewFile | Part::NewToken => true,
         Part::Items | Part::HeldShares | Part::HeldToken | Part::Credits | Part::Queued => true,
+        Part::Kinds | Part::WriteShares => true,
     }
 }
 
-fn are_items(part: Part) -> bool
-    ensures { result ≡ spec.are_items part }
+// Whether a list of words is in a part, and not one word.
+fn is_list(part: Part) -> bool
+    ensures { result ≡ spec.is_list part }
 {
     match part {
-        Part::Items => true,
+        Part::Items | Part::Kinds => true,
+        _ => false,
+    }
+}
+
+fn is_fixed(part: Part) -> bool
+    ensures { result ≡ spec.is_fixed part }
+{
+    match part {
+        Part::Fixed(_) => true,
         _ => false,
     }
 }
@@ -161,6 +174,43 @@ fn push_word<'a>(spots: &mut Vec<Spot<'a>>, part: Part, word: &'a [u8]) -> Resul
     }
 }
 
+// Adds the places of kinds, where all words are theirs. The answer is how many words they are.
+fn push_kinds<'a>(
+    spots: &mut Vec<Spot<'a>>,
+    words: &[&'a [u8]],
+) -> Result<Option<usize>, AllocError>
+    ensures value { IfOk result (λ o. o ≡ quick.taken_list Part.Kinds (texts_of words.now)) }
+    ensures within { IfOk result (λ o. IfSome o (λ n. n ≤ length words.now)) }
+    ensures spots { AddsSome result spots.old spots.new (spec.spots_of_list Part.Kinds (texts_of words.now)) }
+{
+    let mut part = Part::KindWord;
+    for word in words {
+        if !fits(part, word) {
+            return Ok(None);
+        }
+        push_word(spots, part, word)?;
+        part = part_after(part, word);
+    }
+    let are_kinds = is_fixed(part) && count_or(words) <= 3;
+    Ok(are_kinds.then_some(words.len()))
+}
+
+// Adds the places of a list, where it is there. The answer is how many words it is.
+fn push_list<'a>(
+    spots: &mut Vec<Spot<'a>>,
+    part: Part,
+    words: &[&'a [u8]],
+) -> Result<Option<usize>, AllocError>
+    ensures value { IfOk result (λ o. o ≡ quick.taken_list part (texts_of words.now)) }
+    ensures within { IfOk result (λ o. IfSome o (λ n. n ≤ length words.now)) }
+    ensures spots { AddsSome result spots.old spots.new (spec.spots_of_list part (texts_of words.now)) }
+{
+    match part {
+        Part::Kinds => push_kinds(spots, words),
+        _ => Ok(Some(push_items(spots, words)?)),
+    }
+}
+
 // Adds the places of the words that a part takes, where they are there. The answer is how many words they are.
 fn push_part<'a>(
     spots: &mut Vec<Spot<'a>>,
@@ -171,8 +221,8 @@ fn push_part<'a>(
     ensures within { IfOk result (λ o. IfSome o (λ n. n ≤ length words.now)) }
     ensures spots { AddsSome result spots.old spots.new (spec.spots_at part (texts_of words.now)) }
 {
-    if are_items(part) {
-        return Ok(Some(push_items(spots, words)?));
+    if is_list(part) {
+        return push_list(spots, part, words);
     }
     match words {
         [] => Ok(None),
@@ -214,7 +264,7 @@ pub fn has_name(part: Part) -> bool
     match part {
         Part::Variable | Part::Operand | Part::Flag => true,
         Part::Buffer | Part::Pool => true,
-        Part::NewBuffer | Part::NewPool | Part::NewThread => true,
+        Part::NewBuffer | Part::NewPool | Part::NewThread | Part::ReadBuffer => true,
         _ => false,
     }
 }
@@ -238,12 +288,12 @@ fn is_form(version: u32, row: Row, spots: &[Spot]) -> bool
     version_of(row) <= version && !any_reserved(version, spots)
 }
 
-// Whether items are in a form.
-fn has_items(row: Row) -> bool
-    ensures { result ≡ quick.has_items (spec_parts_of row) }
+// Whether a list of words is in a form.
+fn has_list(row: Row) -> bool
+    ensures { result ≡ quick.has_list (spec_parts_of row) }
 {
     match row {
-        Row::Thread | Row::Put | Row::IfTake | Row::Loop | Row::LoopWhen => true,
+        Row::TokenKinds | Row::Thread | Row::Put | Row::IfTake | Row::Loop | Row::LoopWhen => true,
         Row::PutNamed | Row::IfTakeNamed => true,
         _ => false,
     }
@@ -255,8 +305,8 @@ fn put_form<'a>(spots: &mut Vec<Spot<'a>>, row: Row, words: &[&'a [u8]]) -> Resu
     ensures spots { IfOk result (λ b. b ≡ true → HasSpots spots.new (spec_parts_of row) words.now) }
 {
     let parts = parts_of(row);
-    // Each part takes one word, but for items.
-    if parts.len() != words.len() && !has_items(row) {
+    // Each part takes one word, but for lists.
+    if parts.len() != words.len() && !has_list(row) {
         return Ok(false);
     }
     put_places(spots, parts, words)

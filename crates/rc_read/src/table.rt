@@ -4,7 +4,7 @@ ghost use Rattle.std.specs.Prelude.{◌≡◌};
 ghost use Rattle.rc_read.specs.Table as spec;
 
 use crate::fixed::Word;
-pub use crate::order::{assignments, rows_of, version_of};
+pub use crate::order::{assignments, rows_of, stand_of, version_of};
 
 /// The range of a number.
 #[derive(Clone, Copy)]
@@ -54,6 +54,13 @@ pub enum Part {
     HeldToken,
     Credits,
     Queued,
+    /// One to four kinds of requests, with `or` between two.
+    Kinds,
+    /// In kinds: the first word of one, the buffer of a read that is declared above, and how many shares of the buffer
+    /// before a write owns.
+    KindWord,
+    ReadBuffer,
+    WriteShares,
 }
 
 /// A form of lines.
@@ -75,6 +82,7 @@ pub enum Row {
     TokenFsync,
     TokenNop,
     TokenOther,
+    TokenKinds,
     Pool,
     Thread,
     Set,
@@ -98,6 +106,7 @@ pub enum Row {
     SetData64,
     Submit,
     SubmitAndWait,
+    CqeGetData64,
     CqeSeen,
     Peek,
     Case,
@@ -203,6 +212,7 @@ pub fn parts_of(row: Row) -> &'static [Part]
             Part::NewToken,
             Part::Fixed(Word::Other),
         ],
+        Row::TokenKinds => &[Part::Fixed(Word::Token), Part::NewToken, Part::Kinds],
         Row::Pool => &[Part::Fixed(Word::Pool), Part::NewPool],
         Row::Thread => &[
             Part::Fixed(Word::Thread),
@@ -289,6 +299,7 @@ pub fn parts_of(row: Row) -> &'static [Part]
             Part::Fixed(Word::SubmitAndWait),
             Part::Number(Range::Within(0, 2048)),
         ],
+        Row::CqeGetData64 => &[Part::Fixed(Word::CqeGetData64)],
         Row::CqeSeen => &[Part::Fixed(Word::CqeSeen)],
         Row::Peek => &[
             Part::Fixed(Word::PeekCqe),
@@ -363,33 +374,5 @@ pub fn parts_of(row: Row) -> &'static [Part]
         ],
         Row::Break => &[Part::Fixed(Word::Break)],
         Row::Close => &[Part::Fixed(Word::Close)],
-    }
-}
-
-/// Where a form may be.
-pub fn stand_of(row: Row) -> Stand
-    ensures { result ≡ spec.stand_of row }
-{
-    match row {
-        Row::Version | Row::SecondVersion | Row::ThirdVersion => Stand::First,
-        Row::FourthVersion | Row::FifthVersion => Stand::First,
-        Row::Ring | Row::RingCq | Row::RingLeft | Row::RingCqLeft => Stand::Second,
-        Row::File
-        | Row::Buffer
-        | Row::TokenRead
-        | Row::TokenWrite
-        | Row::TokenFsync
-        | Row::TokenNop
-        | Row::TokenOther
-        | Row::Pool => Stand::Declaration,
-        Row::Thread => Stand::Header,
-        Row::Else | Row::Close => Stand::Brace,
-        Row::Set | Row::Add | Row::Subtract | Row::Load | Row::Store | Row::Fill => Stand::Inside,
-        Row::Print | Row::Lock | Row::GetSqe | Row::PrepRead | Row::PrepWrite => Stand::Inside,
-        Row::PrepFsync | Row::PrepNop | Row::SetData64 | Row::Submit => Stand::Inside,
-        Row::SubmitAndWait | Row::CqeSeen | Row::Peek | Row::Case | Row::Other => Stand::Inside,
-        Row::Nothing | Row::If | Row::IfReady | Row::IfSpace | Row::IfTake => Stand::Inside,
-        Row::Put | Row::Loop | Row::LoopWhen | Row::Break | Row::PutNamed => Stand::Inside,
-        Row::LockSq | Row::LockCq | Row::IfTakeNamed | Row::PrepOther | Row::IfAny => Stand::Inside,
     }
 }

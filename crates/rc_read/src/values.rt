@@ -10,6 +10,7 @@ use crate::table::Range;
 use crate::words::is;
 use rc_lang::lines::{Comparison, Operand};
 use rc_lang::numbers::{is_number, number_of, signed_number_of};
+use rc_lang::program::TokenKind;
 
 /// An item of a list: shares of a buffer, a token, credits or queued entries; and `when`, which is between two
 /// lists with a variable.
@@ -33,6 +34,8 @@ pub enum Value {
     Operand(Operand),
     Compares(Comparison),
     Item(Item),
+    /// A kind that a token may be of.
+    Kind(TokenKind),
 }
 
 /// What the places so far say of the next: the entries of the submission ring that the line asks for, and the buffer
@@ -84,6 +87,15 @@ fn any_share(word: &[u8]) -> Option<u32>
     (is_number(word) && !is(word, b"0")).then_some(1)
 }
 
+fn share_number(shares: Option<u32>, word: &[u8]) -> Option<u32>
+    ensures { result ≡ spec.share_number shares word.now }
+{
+    match shares {
+        None => any_share(word),
+        Some(shares) => small_number_of(1, shares, word),
+    }
+}
+
 pub fn number_at(parts: &Parts, seen: Seen, range: Range, word: &[u8]) -> Option<u32>
     ensures { result ≡ spec.number_at (view_sheet parts.now) seen range word.now }
 {
@@ -93,10 +105,7 @@ pub fn number_at(parts: &Parts, seen: Seen, range: Range, word: &[u8]) -> Option
         Range::CompletionSize => with_room(seen.rounded, small_number_of(1, 2048, word)),
         Range::Rounded => small_number_of(0, seen.rounded, word),
         Range::Entries => small_number_of(0, parts.head.entries, word),
-        Range::Shares => match seen.shares {
-            None => any_share(word),
-            Some(shares) => small_number_of(1, shares, word),
-        },
+        Range::Shares => share_number(seen.shares, word),
     }
 }
 
@@ -139,6 +148,14 @@ pub fn comparison_value(comparison: Option<Comparison>) -> Value
         None => Value::Nothing,
         Some(comparison) => Value::Compares(comparison),
     }
+}
+
+/// A write of the buffer before.
+pub fn write_value(seen: Seen, word: &[u8]) -> Option<Value>
+    ensures { result ≡ spec.write_value seen (spec.share_number seen.shares word.now) }
+{
+    let count = share_number(seen.shares, word)?;
+    Some(Value::Kind(TokenKind::Write(seen.buffer, count)))
 }
 
 pub fn user_data_value(user_data: Option<u64>) -> Option<Value>

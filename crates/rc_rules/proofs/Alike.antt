@@ -1,7 +1,8 @@
--- Sides of one state: unless one is dead, both have the same locks, and their slots are at one stage.
-use Rattle.std.proofs.Common.{◌≡◌, ℕ, ◌-◌, ◌⊎◌, inl, inr, Bool, true, false, cond, not, nat_lt, ◌&&◌, ◌||◌, [], ◌∷◌, Option, Some, None, refl, sym, ap, subst, ◌∙◌}
+-- Sides of one state: unless one is dead, both have the same locks, their slots are at one stage, and the front completion
+-- is got on both or on neither.
+use Rattle.std.proofs.Common.{◌≡◌, ℕ, ◌-◌, ◌⊎◌, inl, inr, Bool, true, false, cond, not, nat_lt, [], ◌∷◌, Option, Some, None, refl, sym, ap, subst, ◌∙◌}
 use Rattle.std.specs.Prelude.{is_some}
-use Rattle.std.proofs.lemmas.Bool.{and_from, eq-eqb}
+use Rattle.std.proofs.lemmas.Bool.{and_from, and_parts, eq-eqb}
 use Rattle.rc_lang.specs.declared.lines.Locks.{Locks}
 use Rattle.rc_lang.specs.declared.lines.Op.{Op}
 use Rattle.rc_lang.specs.declared.lines.Op.TheVariants as ops
@@ -24,16 +25,19 @@ use Rattle.rc_rules.specs.declared.rule.Rule.{Rule}
 use Rattle.rc_rules.specs.declared.rule.Rule.TheVariants.{Do, Put, Lock, Release, If, Take, Case, Other, Nothing}
 use Rattle.rc_rules.specs.Labels.{Label, Dead, Live, UnderLock, Weaker, WeakerMode, WeakerPeeked, WeakerSubmitting, IsStrongest, IsSame}
 use Rattle.rc_rules.specs.OneRule.{rule_effect}
-use Rattle.rc_rules.specs.Rules.{same_kind, same_slot, if_locked, op_effect, goes, locked, freed, at_most, test_mode, with_peeked, case_at, can_take, take_effect, agree_sq, agree, agree_all, broken}
-use Rattle.rc_rules.specs.States.{State, label_of, label_in, mode_in, mode_or, mode_of, is_live, AgreeOnLocks, IsState}
-use Rattle.rc_split.specs.Holdings.{Holding}
-use Rattle.rc_rules.proofs.Weaker.{freed_held, lock_freed, lock_held, lock_map, lock_maps, lock_refl, lock_sym, lock_taken, lock_trans, locks_equal, map_held, same_slot_is, taken_held}
+use Rattle.rc_rules.specs.Kinds.{same_kind}
+use Rattle.rc_rules.specs.Rules.{same_slot, is_got, if_locked, op_effect, goes, locked, freed, at_most, test_mode, with_peeked, peek_at, case_at, can_take, take_effect, agree_cq, agree_modes, agree_sq, agree, broken}
+use Rattle.rc_rules.specs.States.{is_live, AgreeOnLocks}
+use Rattle.rc_rules.proofs.Weaker.{got_same, lock_freed, lock_held, lock_map, lock_maps, lock_refl, lock_sym, lock_taken, lock_trans, locks_equal, same_slot_is}
 
-abbrev SameStage : Submitting → Submitting → Type 0
+abbrev pub SameStage : Submitting → Submitting → Type 0
 SameStage s t = s.slot ≡ t.slot
 
+abbrev pub SameGot : Peeked → Peeked → Type 0
+SameGot p q = is_got p ≡ is_got q
+
 abbrev pub AlikeModes : Mode → Mode → Type 0
-AlikeModes m n = UnderLock SameStage m.sq n.sq × (is_some m.cq ≡ is_some n.cq)
+AlikeModes m n = UnderLock SameStage m.sq n.sq × UnderLock SameGot m.cq n.cq
 
 abbrev pub Alike : Label → Label → Type 0
 Alike Dead t = Unit {0}
@@ -58,15 +62,29 @@ stages None (Some t) l e = absurd (cc)
 stages (Some s) None l e = absurd (cc)
 stages (Some s) (Some t) l e = same_slot_is s.slot t.slot e
 
+pub both_bools : (a b : Bool) → cond a b (not b) ≡ true → a ≡ b
+both_bools true true e = refl
+both_bools false false e = refl
+both_bools true false e = absurd (cc)
+both_bools false true e = absurd (cc)
+
+fronts : (o p : Option Peeked) → is_some p ≡ is_some o → agree_cq o p ≡ true → UnderLock SameGot o p
+fronts None None l e = tt
+fronts None (Some t) l e = absurd (cc)
+fronts (Some s) None l e = absurd (cc)
+fronts (Some s) (Some t) l e = both_bools (is_got s) (is_got t) e
+
 pub alike : (s t : Label) → AgreeOnLocks s t → agree s t ≡ true → Alike s t
 alike Dead t l e = tt
 alike (Live a m) Dead l e = tt
-alike (Live a m) (Live b n) l e = (stages m.sq n.sq (ap (λ (x : Locks). x.sq) l) e, sym (ap (λ (x : Locks). x.cq) l))
+alike (Live a m) (Live b n) l e =
+    let h = and_parts (agree_sq m.sq n.sq) (agree_cq m.cq n.cq) e in
+    (stages m.sq n.sq (ap (λ (x : Locks). x.sq) l) h.0, fronts m.cq n.cq (ap (λ (x : Locks). x.cq) l) h.1)
 
 pub alike_lock : (s t : Label) → Alike s t → AgreeOnLocks s t
 alike_lock Dead t l = tt
 alike_lock (Live a m) Dead l = tt
-alike_lock (Live a m) (Live b n) l = locks_equal n m (sym (lock_held SameStage m.sq n.sq l.0)) (sym l.1)
+alike_lock (Live a m) (Live b n) l = locks_equal n m (sym (lock_held SameStage m.sq n.sq l.0)) (sym (lock_held SameGot m.cq n.cq l.1))
 
 agree_alike : (o p : Option Submitting) → UnderLock SameStage o p → agree_sq o p ≡ true
 agree_alike None None l = refl
@@ -74,12 +92,27 @@ agree_alike None (Some t) l = refl
 agree_alike (Some s) None l = refl
 agree_alike (Some s) (Some t) l = subst (λ x. same_slot s.slot x ≡ true) l (slot_refl s.slot)
 
+pub same_bools : (a b : Bool) → a ≡ b → cond a b (not b) ≡ true
+same_bools true true e = refl
+same_bools false false e = refl
+same_bools true false e = absurd (cc)
+same_bools false true e = absurd (cc)
+
+got_alike : (o p : Option Peeked) → UnderLock SameGot o p → agree_cq o p ≡ true
+got_alike None None l = refl
+got_alike None (Some t) l = refl
+got_alike (Some s) None l = refl
+got_alike (Some s) (Some t) l = same_bools (is_got s) (is_got t) l
+
+pub modes_agree : (m n : Mode) → AlikeModes m n → agree_modes m n ≡ true
+modes_agree m n l = and_from (agree_sq m.sq n.sq) (agree_cq m.cq n.cq) (agree_alike m.sq n.sq l.0) (got_alike m.cq n.cq l.1)
+
 pub alike_slot : (s t : Label) → Alike s t → agree s t ≡ true
 alike_slot Dead t l = refl
 alike_slot (Live a m) Dead l = refl
-alike_slot (Live a m) (Live b n) l = agree_alike m.sq n.sq l.0
+alike_slot (Live a m) (Live b n) l = modes_agree m n l
 
-slot_sym : (s t : Slot) → same_slot s t ≡ same_slot t s
+pub slot_sym : (s t : Slot) → same_slot s t ≡ same_slot t s
 slot_sym s t = go (same_slot s t) (same_slot t s) refl refl
   where
     go : (x y : Bool) → same_slot s t ≡ x → same_slot t s ≡ y → x ≡ y
@@ -89,7 +122,7 @@ slot_sym s t = go (same_slot s t) (same_slot t s) refl refl
     go false true e f = absurd (let h : same_slot s t ≡ true = subst (λ u. same_slot u t ≡ true) (same_slot_is t s f) (slot_refl t) in cc (e, h))
 
 modes_refl : (m : Mode) → AlikeModes m m
-modes_refl m = (lock_refl SameStage (λ s. refl) m.sq, refl)
+modes_refl m = (lock_refl SameStage (λ s. refl) m.sq, lock_refl SameGot (λ p. refl) m.cq)
 
 pub alike_refl : (s : Label) → Alike s s
 alike_refl Dead = tt
@@ -102,7 +135,7 @@ stage_trans : (s t u : Submitting) → SameStage s t → SameStage t u → SameS
 stage_trans s t u e f = e ∙ f
 
 modes_sym : (m n : Mode) → AlikeModes m n → AlikeModes n m
-modes_sym m n l = (lock_sym SameStage stage_sym m.sq n.sq l.0, sym l.1)
+modes_sym m n l = (lock_sym SameStage stage_sym m.sq n.sq l.0, lock_sym SameGot (λ p q e. sym e) m.cq n.cq l.1)
 
 pub alike_sym : (s t : Label) → Alike s t → Alike t s
 alike_sym Dead Dead l = tt
@@ -130,6 +163,9 @@ effect_alike P a b m n op l = go op
     sq : is_some m.sq ≡ is_some n.sq
     sq = lock_held SameStage m.sq n.sq l.0
 
+    cq : is_some m.cq ≡ is_some n.cq
+    cq = lock_held SameGot m.cq n.cq l.1
+
     go : (op : Op) → Alike (op_effect P a m op) (op_effect P b n op)
     go ops.GetSqe = lock_alike _ _ m.sq n.sq sq (λ s t. (refl, l.1))
     go (ops.PrepRead fd c len off) = lock_alike _ _ m.sq n.sq sq (λ s t. (refl, l.1))
@@ -138,7 +174,8 @@ effect_alike P a b m n op l = go op
     go ops.PrepNop = lock_alike _ _ m.sq n.sq sq (λ s t. (refl, l.1))
     go ops.PrepOther = lock_alike _ _ m.sq n.sq sq (λ s t. (refl, l.1))
     go (ops.SetData64 u) = lock_alike _ _ m.sq n.sq sq (λ s t. (refl, l.1))
-    go ops.CqeSeen = lock_alike _ _ m.cq n.cq l.1 (λ p q. (l.0, refl))
+    go ops.CqeGetData64 = lock_alike _ _ m.cq n.cq cq (λ p q. (l.0, refl))
+    go ops.CqeSeen = lock_alike _ _ m.cq n.cq cq (λ p q. (l.0, refl))
     go _ = l
 
 most_alike : (k : ℕ) (m n : Mode) → AlikeModes m n → AlikeModes (at_most k m) (at_most k n)
@@ -152,18 +189,23 @@ test_alike P (tests.Take pool k) m n l = l
 test_alike P Any m n l = l
 
 locked_alike : (P : Program) (locks : Locks) (m n : Mode) → AlikeModes m n → AlikeModes (locked P locks m) (locked P locks n)
-locked_alike P locks m n l = (lock_taken SameStage locks.sq _ m.sq n.sq refl l.0, taken_held locks.cq Unseen m.cq ∙ ap (λ b. b || locks.cq) l.1 ∙ sym (taken_held locks.cq Unseen n.cq))
+locked_alike P locks m n l = (lock_taken SameStage locks.sq _ m.sq n.sq refl l.0, lock_taken SameGot locks.cq Unseen m.cq n.cq refl l.1)
 
 freed_alike : (locks : Locks) (m n : Mode) → AlikeModes m n → AlikeModes (freed locks m) (freed locks n)
-freed_alike locks m n l = (lock_freed SameStage locks.sq m.sq n.sq l.0, freed_held locks.cq m.cq ∙ ap (λ b. b && not locks.cq) l.1 ∙ sym (freed_held locks.cq n.cq))
+freed_alike locks m n l = (lock_freed SameStage locks.sq m.sq n.sq l.0, lock_freed SameGot locks.cq m.cq n.cq l.1)
 
-with_alike : (p q : Peeked) (m n : Mode) → AlikeModes m n → AlikeModes (with_peeked p m) (with_peeked q n)
-with_alike p q m n l = (l.0, map_held (λ _. p) m.cq ∙ l.1 ∙ sym (map_held (λ _. q) n.cq))
+with_alike : (p : Peeked) (m n : Mode) → AlikeModes m n → AlikeModes (with_peeked p m) (with_peeked p n)
+with_alike p m n l = (l.0, lock_maps SameGot SameGot (λ _. p) (λ s t e. refl) m.cq n.cq l.1)
+
+pub peeked_alike : (p : Peeked) (s t : Label) → Alike s t → Alike (peek_at p s) (peek_at p t)
+peeked_alike p Dead t l = tt
+peeked_alike p (Live a m) Dead l = tt
+peeked_alike p (Live a m) (Live b n) l = with_alike p m n l
 
 pub broken_alike : (locks : Locks) (s t : Label) → Alike s t → Alike (broken locks s) (broken locks t)
 broken_alike locks Dead t l = tt
 broken_alike locks (Live a m) Dead l = tt
-broken_alike locks (Live a m) (Live b n) l = freed_alike locks (with_peeked Unseen m) (with_peeked Unseen n) (with_alike Unseen Unseen m n l)
+broken_alike locks (Live a m) (Live b n) l = freed_alike locks (with_peeked Unseen m) (with_peeked Unseen n) (with_alike Unseen m n l)
 
 case_alike : (u : ℕ) (a b : Part → ℕ) (m n : Mode) → AlikeModes m n → Alike (case_at u (Live a m)) (case_at u (Live b n))
 case_alike u a b m n l = go (nat_lt 0 (a (TokenOf u))) (nat_lt 0 (b (TokenOf u)))
@@ -171,7 +213,7 @@ case_alike u a b m n l = go (nat_lt 0 (a (TokenOf u))) (nat_lt 0 (b (TokenOf u))
     go : (x y : Bool) → Alike (cond x Dead (Live a (with_peeked (Sees u) m))) (cond y Dead (Live b (with_peeked (Sees u) n)))
     go true y = tt
     go false true = tt
-    go false false = with_alike (Sees u) (Sees u) m n l
+    go false false = with_alike (Sees u) m n l
 
 take_alike : (P : Program) (items : Items) (a b : Part → ℕ) (m n : Mode) → AlikeModes m n → Alike (take_effect P a m items) (take_effect P b n items)
 take_alike P items a b m n l = go (can_take P a m items) (can_take P b n items)
@@ -189,8 +231,8 @@ rule_alike P (Release releases) a b m n l = freed_alike releases m n l
 rule_alike P (If test) a b m n l = test_alike P test m n l
 rule_alike P (Take pool items) a b m n l = take_alike P (view_items items.now) a b m n l
 rule_alike P (Case u) a b m n l = case_alike u a b m n l
-rule_alike P Other a b m n l = with_alike SeesOther SeesOther m n l
-rule_alike P Nothing a b m n l = with_alike Unseen Unseen m n l
+rule_alike P Other a b m n l = with_alike SeesOther m n l
+rule_alike P Nothing a b m n l = with_alike Unseen m n l
 
 goes_dead : (P : Program) (rule : Rule) (s : Label) → Alike s Dead
 goes_dead P rule Dead = tt
@@ -208,8 +250,14 @@ lower_sq o p q r v w e =
     let stage : (s t : Option Submitting) → UnderLock WeakerSubmitting s t → UnderLock SameStage s t = lock_map WeakerSubmitting SameStage (λ x y u. u.slot) in
     lock_trans SameStage stage_trans o q p (stage o q v) (lock_trans SameStage stage_trans q r p e (lock_sym SameStage stage_sym p r (stage p r w)))
 
+lower_cq : (o p q r : Option Peeked) → UnderLock WeakerPeeked o q → UnderLock WeakerPeeked p r → UnderLock SameGot q r → UnderLock SameGot o p
+lower_cq o p q r v w e =
+    let got : (s t : Option Peeked) → UnderLock WeakerPeeked s t → UnderLock SameGot s t = lock_map WeakerPeeked SameGot got_same in
+    let trans : (s t u : Peeked) → SameGot s t → SameGot t u → SameGot s u = λ s t u f g. f ∙ g in
+    lock_trans SameGot trans o q p (got o q v) (lock_trans SameGot trans q r p e (lock_sym SameGot (λ s t f. sym f) p r (got p r w)))
+
 lower_modes : (m n k l : Mode) → WeakerMode m k → WeakerMode n l → AlikeModes k l → AlikeModes m n
-lower_modes m n k l v w e = (lower_sq m.sq n.sq k.sq l.sq v.0 w.0 e.0, lock_held WeakerPeeked m.cq k.cq v.1 ∙ e.1 ∙ sym (lock_held WeakerPeeked n.cq l.cq w.1))
+lower_modes m n k l v w e = (lower_sq m.sq n.sq k.sq l.sq v.0 w.0 e.0, lower_cq m.cq n.cq k.cq l.cq v.1 w.1 e.1)
 
 -- what is weaker than live labels that are alike is alike
 lower : (s t u v : Label) → is_live u ≡ true → is_live v ≡ true → Weaker s u → Weaker t v → Alike u v → Alike s t
@@ -245,103 +293,3 @@ joins_alike s t a b c d h g ab ad cb cd = go (comes_from s a c h) (comes_from t 
     go (inr (inl x)) (inr (inr y)) = lower s t a d x.0 y.0 x.1 y.1 ad
     go (inr (inr x)) (inr (inl y)) = lower s t c b x.0 y.0 x.1 y.1 cb
     go (inr (inr x)) (inr (inr y)) = lower s t c d x.0 y.0 x.1 y.1 cd
-
--- ---- V15 of two states: one mode of each tells
-
-agree_left : (o p q : Option Submitting) → UnderLock SameStage o p → agree_sq o q ≡ agree_sq p q
-agree_left None None q l = refl
-agree_left None (Some t) q l = absurd l
-agree_left (Some s) None q l = absurd l
-agree_left (Some s) (Some t) None l = refl
-agree_left (Some s) (Some t) (Some u) l = ap (λ x. same_slot x u.slot) l
-
-sq_swap : (o p : Option Submitting) → agree_sq o p ≡ agree_sq p o
-sq_swap None None = refl
-sq_swap None (Some t) = refl
-sq_swap (Some s) None = refl
-sq_swap (Some s) (Some t) = slot_sym s.slot t.slot
-
-agree_right : (o p q : Option Submitting) → UnderLock SameStage o p → agree_sq q o ≡ agree_sq q p
-agree_right o p q l = sq_swap q o ∙ agree_left o p q l ∙ sq_swap p q
-
-pub agree_swap : (s t : Label) → agree s t ≡ true → agree t s ≡ true
-agree_swap Dead Dead e = refl
-agree_swap Dead (Live b n) e = refl
-agree_swap (Live a m) Dead e = refl
-agree_swap (Live a m) (Live b n) e = sq_swap n.sq m.sq ∙ e
-
-abbrev pub mode_on : Label → Option Mode
-mode_on Dead = None
-mode_on (Live a m) = Some m
-
-abbrev pub agree_some : Option Mode → Option Mode → Bool
-agree_some (Some m) (Some n) = agree_sq m.sq n.sq
-agree_some (Some m) None = true
-agree_some None n = true
-
-one : (x : Bool) → (x && true) && true ≡ x
-one true = refl
-one false = refl
-
-two : (x : Bool) → (x && (true && true)) && ((x && true) && true) ≡ x
-two true = refl
-two false = refl
-
-three : (x : Bool) → (x && (x && true)) && true ≡ x
-three true = refl
-three false = refl
-
-thrice : (x : Bool) → (true && (x && true)) && ((x && true) && true) ≡ x
-thrice true = refl
-thrice false = refl
-
-four : (x : Bool) → (x && (true && (x && true))) && ((x && (true && true)) && ((x && true) && true)) ≡ x
-four true = refl
-four false = refl
-
-pub all_agree : (a b c d : Label) → Alike a b → Alike c d → agree_all (a ∷ c ∷ b ∷ d ∷ []) ≡ agree_some (mode_or (mode_on a) (mode_on b)) (mode_or (mode_on c) (mode_on d))
-all_agree Dead Dead Dead Dead l k = refl
-all_agree Dead Dead (Live c o) Dead l k = refl
-all_agree Dead Dead Dead (Live d p) l k = refl
-all_agree Dead Dead (Live c o) (Live d p) l k = rw (agree_alike o.sq p.sq k.0) refl
-all_agree (Live a m) Dead Dead Dead l k = refl
-all_agree Dead (Live b n) Dead Dead l k = refl
-all_agree (Live a m) (Live b n) Dead Dead l k = rw (agree_alike m.sq n.sq l.0) refl
-all_agree (Live a m) Dead (Live c o) Dead l k = one (agree_sq m.sq o.sq)
-all_agree (Live a m) Dead Dead (Live d p) l k = one (agree_sq m.sq p.sq)
-all_agree Dead (Live b n) (Live c o) Dead l k = rw (sq_swap o.sq n.sq) (one (agree_sq n.sq o.sq))
-all_agree Dead (Live b n) Dead (Live d p) l k = one (agree_sq n.sq p.sq)
-all_agree (Live a m) Dead (Live c o) (Live d p) l k = rw (agree_alike o.sq p.sq k.0, ← agree_right o.sq p.sq m.sq k.0) (three (agree_sq m.sq o.sq))
-all_agree Dead (Live b n) (Live c o) (Live d p) l k = rw (agree_alike o.sq p.sq k.0, ← agree_right o.sq p.sq n.sq k.0, sq_swap o.sq n.sq) (two (agree_sq n.sq o.sq))
-all_agree (Live a m) (Live b n) (Live c o) Dead l k = rw (agree_alike m.sq n.sq l.0, sq_swap o.sq n.sq, ← agree_left m.sq n.sq o.sq l.0) (two (agree_sq m.sq o.sq))
-all_agree (Live a m) (Live b n) Dead (Live d p) l k = rw (agree_alike m.sq n.sq l.0, ← agree_left m.sq n.sq p.sq l.0) (thrice (agree_sq m.sq p.sq))
-all_agree (Live a m) (Live b n) (Live c o) (Live d p) l k = rw (agree_alike m.sq n.sq l.0, agree_alike o.sq p.sq k.0, sq_swap o.sq n.sq, ← agree_left m.sq n.sq o.sq l.0, ← agree_left m.sq n.sq p.sq l.0, ← agree_right o.sq p.sq m.sq k.0) (four (agree_sq m.sq o.sq))
-
-mode_same : (o : Option (Holding × Mode)) → mode_on (label_in o) ≡ mode_in o
-mode_same None = refl
-mode_same (Some s) = refl
-
-abbrev pub Joined : State → State → Bool
-Joined x y = agree_all (label_of x true ∷ label_of y true ∷ label_of x false ∷ label_of y false ∷ [])
-
-all_join : (x y : State) → IsState x → IsState y → Joined x y ≡ agree_some (mode_of x) (mode_of y)
-all_join x y h g =
-    let e = all_agree (label_of x true) (label_of x false) (label_of y true) (label_of y false) (alike _ _ h.lock h.slot) (alike _ _ g.lock g.slot) in
-    let a = mode_same x.zero.live in
-    let b = mode_same x.other.live in
-    let c = mode_same y.zero.live in
-    let d = mode_same y.other.live in
-    rw (← a, ← b, ← c, ← d) e
-
-pub some_join : (x y : State) (o p : Option Mode) (m n : Mode) → IsState x → IsState y → o ≡ mode_of x → p ≡ mode_of y → o ≡ Some m → p ≡ Some n → Joined x y ≡ agree_sq m.sq n.sq
-some_join x y o p m n h g e f i j = all_join x y h g ∙ ap (λ q. agree_some q (mode_of y)) (sym e ∙ i) ∙ ap (agree_some (Some m)) (sym f ∙ j)
-
-pub left_join : (x y : State) (o : Option Mode) → IsState x → IsState y → o ≡ mode_of x → o ≡ None → Joined x y ≡ true
-left_join x y o h g e i = all_join x y h g ∙ ap (λ q. agree_some q (mode_of y)) (sym e ∙ i)
-
-right_none : (o : Option Mode) → agree_some o None ≡ true
-right_none None = refl
-right_none (Some m) = refl
-
-pub right_join : (x y : State) (o : Option Mode) → IsState x → IsState y → o ≡ mode_of y → o ≡ None → Joined x y ≡ true
-right_join x y o h g e i = all_join x y h g ∙ ap (agree_some (mode_of x)) (sym e ∙ i) ∙ right_none (mode_of x)

@@ -13,16 +13,18 @@ use Rattle.rc_rules.specs.declared.mode.Mode.{Mode}
 use Rattle.rc_split.specs.Bags.{Part}
 use Rattle.rc_rules.specs.declared.flag.Write.{Write}
 use Rattle.rc_rules.specs.declared.flag.Write.TheVariants.{Number}
+use Rattle.rc_rules.specs.declared.mode.Peeked.TheVariants.{Unseen}
 use Rattle.rc_rules.specs.declared.rule.Rule.{Rule}
 use Rattle.rc_rules.specs.Causes.{premise_number}
 use Rattle.rc_rules.specs.Labels.{Label, Dead, Live, Weaker, IsStrongest, IsSame}
 use Rattle.rc_rules.specs.OneRule.{rule_premises, rule_effect, only_computes, MayFollow, SideGoes, StateGoes}
 use Rattle.rc_rules.specs.Premises.{Premise, Meets, FailsFirst, Tests}
 use Rattle.rc_rules.specs.Needs.{line_premises}
-use Rattle.rc_rules.specs.Rules.{asks, asks_both, broken, goes, op_effect}
+use Rattle.rc_rules.specs.Rules.{agree, asks, asks_both, broken, goes, op_effect, peek_at}
 use Rattle.rc_rules.specs.Sides.{gate, brings, turns}
 use Rattle.rc_rules.specs.States.{Side, State, side_label, label_of, program_of, is_live, IsState, GivesSide, Becomes, OnBoth, AgreeOnLocks}
-use Rattle.rc_rules.proofs.Alike.{Alike, Joined, alike, alike_lock, alike_slot, alike_sym, broken_alike, same_alike, goes_alike, joins_alike, agree_swap}
+use Rattle.rc_rules.proofs.Alike.{Alike, alike, alike_lock, alike_slot, alike_sym, broken_alike, peeked_alike, same_alike, goes_alike, joins_alike}
+use Rattle.rc_rules.proofs.Joins.{Joined, agree_swap}
 use Rattle.rc_rules.proofs.Weaker.{strongest, strongest_left, weaker_trans, meets_append, meets_left, meets_right, fails_left, not_both}
 
 pub dead_of : (s : Label) → is_live s ≡ false → s ≡ Dead
@@ -124,12 +126,18 @@ module _ (f : Option ℕ) (a b s o : Side) (rule : Rule) (r q t : Result (Unit {
       let w : Alike (side_label s) (side_label o) = same_alike _ _ _ _ zero_went.0 other_went.0 (goes_alike a.program rule (side_label a) (side_label b) (alike (side_label a) (side_label b) k.lock k.slot)) in
       record { program = other_went.1 ∙ p ∙ sym zero_went.1; lock = alike_lock _ _ w; slot = alike_slot _ _ w }
 
--- ---- a break on both sides
+-- ---- a break, and an arm's end, on both sides
+
+moved_kept : (F : Label → Label) → ((x y : Label) → Alike x y → Alike (F x) (F y)) → (f : Option ℕ) (a b s o : Side) → IsState (record { flag = f; zero = a; other = b }) → IsSame (side_label s) (F (side_label a)) → IsSame (side_label o) (F (side_label b)) → s.program ≡ a.program → o.program ≡ b.program → IsState (record { flag = f; zero = s; other = o })
+moved_kept F h f a b s o k e g p q =
+    let w : Alike (side_label s) (side_label o) = same_alike _ _ _ _ e g (h (side_label a) (side_label b) (alike (side_label a) (side_label b) k.lock k.slot)) in
+    record { program = q ∙ k.program ∙ sym p; lock = alike_lock _ _ w; slot = alike_slot _ _ w }
 
 pub carried_kept : (l : Locks) (f : Option ℕ) (a b s o : Side) → IsState (record { flag = f; zero = a; other = b }) → IsSame (side_label s) (broken l (side_label a)) → IsSame (side_label o) (broken l (side_label b)) → s.program ≡ a.program → o.program ≡ b.program → IsState (record { flag = f; zero = s; other = o })
-carried_kept l f a b s o k e g p q =
-    let w : Alike (side_label s) (side_label o) = same_alike _ _ _ _ e g (broken_alike l (side_label a) (side_label b) (alike (side_label a) (side_label b) k.lock k.slot)) in
-    record { program = q ∙ k.program ∙ sym p; lock = alike_lock _ _ w; slot = alike_slot _ _ w }
+carried_kept l = moved_kept (broken l) (broken_alike l)
+
+pub forgot_kept : (f : Option ℕ) (a b s o : Side) → IsState (record { flag = f; zero = a; other = b }) → IsSame (side_label s) (peek_at Unseen (side_label a)) → IsSame (side_label o) (peek_at Unseen (side_label b)) → s.program ≡ a.program → o.program ≡ b.program → IsState (record { flag = f; zero = s; other = o })
+forgot_kept = moved_kept (peek_at Unseen) (peeked_alike Unseen)
 
 -- ---- writes to the flag
 
@@ -180,6 +188,12 @@ same_pair f a b s t e q = ap (λ x. pair f x b) (sym e) ∙ ap (pair f s) (sym q
 pub locks : (x y : State) (f g : Option ℕ) (a b c d : Side) → record { flag = f; zero = a; other = b } ≡ x → record { flag = g; zero = c; other = d } ≡ y → ((u v : Bool) → AgreeOnLocks (label_of x u) (label_of y v)) → (u v : Bool) → AgreeOnLocks (label_of (record { flag = f; zero = a; other = b }) u) (label_of (record { flag = g; zero = c; other = d }) v)
 locks x y f g a b c d e q h = subst (λ (s : State). (u v : Bool) → AgreeOnLocks (label_of s u) (label_of (record { flag = g; zero = c; other = d }) v)) (sym e) (subst (λ (t : State). (u v : Bool) → AgreeOnLocks (label_of x u) (label_of t v)) (sym q) h)
 
+-- the other sides of two states that join
+pub others_agree : (x y : State) (f g : Option ℕ) (a b c d : Side) → record { flag = f; zero = a; other = b } ≡ x → record { flag = g; zero = c; other = d } ≡ y → Joined x y ≡ true → agree (side_label b) (side_label d) ≡ true
+others_agree x y f g a b c d e q j =
+    let j' : Joined (record { flag = f; zero = a; other = b }) (record { flag = g; zero = c; other = d }) ≡ true = subst (λ (v : State). Joined v (record { flag = g; zero = c; other = d }) ≡ true) (sym e) (subst (λ (w : State). Joined x w ≡ true) (sym q) j) in
+    (and_parts _ _ (and_parts _ _ (and_parts _ _ (and_parts _ _ j').1).1).0).0
+
 pub met_kept : (x y : State) (f g : Option ℕ) (a b c d s t : Side) → record { flag = f; zero = a; other = b } ≡ x → record { flag = g; zero = c; other = d } ≡ y → IsState (record { flag = f; zero = a; other = b }) → IsState (record { flag = g; zero = c; other = d }) → ((u v : Bool) → AgreeOnLocks (label_of x u) (label_of y v)) → Joined x y ≡ true → IsStrongest (side_label s) (side_label a ∷ side_label c ∷ []) → IsStrongest (side_label t) (side_label b ∷ side_label d ∷ []) → s.program ≡ a.program → t.program ≡ b.program → IsState (record { flag = f; zero = s; other = t })
 met_kept x y f g a b c d s t e q h k l j m n p r =
     let l' = locks x y f g a b c d e q l in
@@ -216,6 +230,7 @@ module _ (P : Program) where
   computes (ops.SetData64 u) a m e = absurd (cc)
   computes (ops.Submit x) a m e = absurd (cc)
   computes (ops.SubmitAndWait x n) a m e = absurd (cc)
+  computes ops.CqeGetData64 a m e = absurd (cc)
   computes ops.CqeSeen a m e = absurd (cc)
 
   asks_nothing : (op : Op) (s : Label) → only_computes op ≡ true → asks s (λ b m. line_premises P [] b m (Do op)) ≡ []

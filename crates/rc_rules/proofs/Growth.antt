@@ -1,6 +1,6 @@
 -- Stronger states are asked for less and give stronger states.
-use Rattle.std.proofs.Common.{◌≡◌, ℕ, suc, ◌+◌, ◌-◌, ◌<◌, ◌≤◌, inl, inr, Bool, true, false, cond, nat_eq, nat_lt, nat_le, ◌||◌, List, [], ◌∷◌, ◌++◌, length, drop, Option, Some, None, refl, sym, subst, arith}
-use Rattle.std.proofs.lemmas.Bool.{and_from, and_parts, leb-true, le-leb, ltb-true, or_cases, or_left, or_right}
+use Rattle.std.proofs.Common.{◌≡◌, ℕ, suc, ◌+◌, ◌<◌, ◌≤◌, Bool, true, false, cond, not, nat_eq, nat_lt, nat_le, List, [], ◌∷◌, ◌++◌, length, drop, Option, Some, None, refl, sym, subst, arith}
+use Rattle.std.proofs.lemmas.Bool.{and_from, and_parts, le-leb, ltb-true}
 use Rattle.rc_lang.specs.declared.lines.Line.{Line}
 use Rattle.rc_lang.specs.declared.lines.Locks.{Locks}
 use Rattle.rc_lang.specs.declared.lines.Op.{Op}
@@ -10,23 +10,25 @@ use Rattle.rc_lang.specs.declared.lines.Stmt.TheVariants.{Do, Put, Lock, EndLock
 use Rattle.rc_lang.specs.declared.lines.Test.{Test}
 use Rattle.rc_lang.specs.declared.lines.Test.TheVariants.{Compare, ReadyZero, SpaceAtLeast, Take, Any}
 use Rattle.rc_lang.specs.Program.{Program, Thread, Items, items_at, stmt_at}
-use Rattle.rc_split.specs.Bags.{Part, ShareOf, TokenOf, Credit, bag_of, bag_on, credits_given, lacking, plus, IsWithin}
-use Rattle.rc_split.proofs.Lacking.{lacking_less}
+use Rattle.rc_split.specs.Bags.{Part, ShareOf, TokenOf, Credit, bag_of, bag_on, plus, IsWithin}
 use Rattle.rc_rules.specs.declared.mode.Mode.{Mode}
 use Rattle.rc_rules.specs.declared.mode.Peeked.{Peeked}
-use Rattle.rc_rules.specs.declared.mode.Peeked.TheVariants.{Unseen, Sees, SeesOther}
+use Rattle.rc_rules.specs.declared.mode.Peeked.TheVariants.{Unseen, Sees, SeesOther, Got}
 use Rattle.rc_rules.specs.declared.mode.Slot.{Slot}
 use Rattle.rc_rules.specs.declared.mode.Slot.TheVariants.{Closed, Vacant}
 use Rattle.rc_rules.specs.declared.mode.Submitting.{Submitting}
 use Rattle.rc_rules.specs.Labels.{Label, Dead, Live, UnderLock, Weaker, WeakerMode, WeakerPeeked, WeakerSubmitting}
 use Rattle.rc_rules.specs.Premises.{Premise, Is, Covers, IsMet, Meets, MeetsBelow}
-use Rattle.rc_rules.specs.Rules.{kind_of, same_slot, has_kind, is_prepared_as, is_seen, sq_of, can_queue, few_credits, few_tokens, with_lock, premises_of, op_needs, pool_needs, test_needs, leave_needs, release_needs, stmt_needs, if_locked, op_effect, reaped, asks, asks_both, joins_both, goes, locked, entered, released, put_effect, can_take, take_effect, test_effect, freed, with_slot, at_most, with_peeked, peek_at, case_at, agree_sq, agree, agree_each, agree_all, queue_on, keeps_queue, top_sq, top, broken}
+use Rattle.rc_rules.specs.Kinds.{kinds_of}
+use Rattle.rc_rules.specs.Rules.{same_slot, has_kind, is_got, is_prepared_as, is_seen, peeked_of, sq_of, with_lock, premises_of, op_needs, pool_needs, test_needs, leave_needs, release_needs, stmt_needs, if_locked, op_effect, got_bag, reaped, asks, asks_both, joins_both, goes, locked, entered, released, put_effect, can_take, take_effect, test_effect, freed, with_slot, at_most, with_peeked, peek_at, case_at, agree_all, queue_on, keeps_queue, top_sq, top, broken}
 use Rattle.rc_rules.specs.Labellings.{label_at, here, skipped, arm_end, arm_ends, break_end, break_ends, befores, premises}
 use Rattle.rc_rules.specs.Laws.{EachWeaker, IsStronger, GrowsAt}
 use Rattle.rc_rules.specs.declared.flag.Write.TheVariants.{Anything}
 use Rattle.rc_rules.specs.Sides.{Sides, gate, brings, turns, write_to, write_of, forgets, test_goes, may_skip}
 use Rattle.rc_rules.proofs.Room.{still_can}
-use Rattle.rc_rules.proofs.Weaker.{lock_freed, lock_maps, lock_taken, peeked_grows, peeked_less, peeked_refl, sq_weaker, label_drop, meets_append, meets_left, meets_right, below_append, below_left, below_right}
+use Rattle.rc_rules.proofs.AgreeGrows.{agree_all_grows, each_append}
+use Rattle.rc_rules.proofs.RoomGrows.{below, more, room_grows}
+use Rattle.rc_rules.proofs.Weaker.{got_same, lock_freed, lock_maps, lock_taken, peeked_grows, peeked_less, peeked_refl, peeked_weaker, sq_weaker, label_drop, meets_append, meets_left, meets_right, below_append, below_left, below_right}
 
 -- ---- lists of premises
 
@@ -82,34 +84,6 @@ goes_grow F E g s Dead w h = tt
 goes_grow F E g Dead (Live c n) w h = absurd w
 goes_grow F E g (Live b m) (Live c n) w h = g b c m n w.0 w.1 h
 
-more : (k a b : ℕ) → a ≤ b → nat_le k a ≡ true → nat_le k b ≡ true
-more k a b h e = let x : k ≤ a = leb-true k a e in le-leb k b (omega arith)
-
-fewer : (a b k : ℕ) → a ≤ b → nat_lt b k ≡ true → nat_lt a k ≡ true
-fewer a b k h e = let x : b < k = ltb-true b k e in le-leb (suc a) k (omega arith)
-
-below : (a b k : ℕ) → a ≤ b → nat_le b k ≡ true → nat_le a k ≡ true
-below a b k h e = let x : b ≤ k = leb-true b k e in le-leb a k (omega arith)
-
-or_grows : (x y u v : Bool) → (x ≡ true → u ≡ true) → (y ≡ true → v ≡ true) → (x || y) ≡ true → (u || v) ≡ true
-or_grows x y u v f g e = elim (or_cases x y e) [ inl h ↦ or_left u v (f h) | inr h ↦ or_right u v (g h) ]
-
-tokens_grow : (P : Program) (b c : Part → ℕ) → IsWithin b c → few_tokens P b ≡ true → few_tokens P c ≡ true
-tokens_grow P b c w e =
-    let h = and_parts (nat_le 4 P.version) (nat_lt (lacking P.tokens b) P.entries) e in
-    and_from _ _ h.0 (fewer (lacking P.tokens c) (lacking P.tokens b) P.entries (lacking_less P.tokens b c w) h.1)
-
-credits_grow : (P : Program) (b c : Part → ℕ) → IsWithin b c → few_credits P b ≡ true → few_credits P c ≡ true
-credits_grow P b c w e =
-    let given = credits_given P.threads in
-    let h = and_parts (nat_le 5 P.version) (nat_lt (given - b Credit) P.entries) e in
-    and_from _ _ h.0 (fewer (given - c Credit) (given - b Credit) P.entries (omega (arith, w Credit)) h.1)
-
--- who holds more, and knows of fewer queued, has room where one who holds less has it
-room_grows : (P : Program) (b c : Part → ℕ) (s t : Submitting) → IsWithin b c → WeakerSubmitting s t → can_queue P b s.queued ≡ true → can_queue P c t.queued ≡ true
-room_grows P b c s t w v = or_grows (nat_lt s.queued P.entries) (few_tokens P b || few_credits P b) (nat_lt t.queued P.entries) (few_tokens P c || few_credits P c) (fewer t.queued s.queued P.entries v.queued)
-    (or_grows (few_tokens P b) (few_credits P b) (few_tokens P c) (few_credits P c) (tokens_grow P b c w) (credits_grow P b c w))
-
 slot_of : (s t : Submitting) (x : Slot) → WeakerSubmitting s t → same_slot s.slot x ≡ true → same_slot t.slot x ≡ true
 slot_of s t x v e = subst (λ y. same_slot y x ≡ true) v.slot e
 
@@ -139,14 +113,18 @@ asks_less P lists z (ops.PrepWrite f d l o k) b c m n w v = locked_less WeakerSu
 asks_less P lists z (ops.PrepFsync f d) b c m n w v = locked_less WeakerSubmitting _ _ m.sq n.sq (λ i j v. (refl, slot_of i j Vacant v, tt)) v.0
 asks_less P lists z ops.PrepNop b c m n w v = locked_less WeakerSubmitting _ _ m.sq n.sq (λ i j v. (refl, slot_of i j Vacant v, tt)) v.0
 asks_less P lists z ops.PrepOther b c m n w v = locked_less WeakerSubmitting _ _ m.sq n.sq (λ i j v. (refl, slot_of i j Vacant v, tt)) v.0
-asks_less P lists z (ops.SetData64 u) b c m n w v = locked_less WeakerSubmitting _ _ m.sq n.sq (λ i j v. (refl, subst (λ y. has_kind y ≡ true) v.slot, (refl, subst (λ y. is_prepared_as (kind_of P u) y ≡ true) v.slot, (refl, more 1 (b (TokenOf u)) (c (TokenOf u)) (w (TokenOf u)), tt)))) v.0
+asks_less P lists z (ops.SetData64 u) b c m n w v = locked_less WeakerSubmitting _ _ m.sq n.sq (λ i j v. (refl, subst (λ y. has_kind y ≡ true) v.slot, (refl, subst (λ y. is_prepared_as (kinds_of P u) y ≡ true) v.slot, (refl, more 1 (b (TokenOf u)) (c (TokenOf u)) (w (TokenOf u)), tt)))) v.0
 asks_less P lists z (ops.Submit x) b c m n w v = locked_less WeakerSubmitting _ _ m.sq n.sq (λ i j v. (refl, slot_of i j Closed v, tt)) v.0
 asks_less P lists z (ops.SubmitAndWait x k) b c m n w v = locked_less WeakerSubmitting _ _ m.sq n.sq (λ i j v. (refl, slot_of i j Closed v, tt)) v.0
+asks_less P lists z ops.CqeGetData64 b c m n w v = locked_less WeakerPeeked _ _ m.cq n.cq (λ p q x. (refl, seen p q x, tt)) v.1
 asks_less P lists z ops.CqeSeen b c m n w v = locked_less WeakerPeeked _ _ m.cq n.cq (λ p q x. (refl, seen p q x, tt)) v.1
 asks_less P lists z _ b c m n w v = tt
 
 unchanged : (b c : Part → ℕ) (m n : Mode) (s t : Submitting) (x : Slot) → IsWithin b c → WeakerMode m n → WeakerSubmitting s t → Weaker (Live b (with_slot x s m)) (Live c (with_slot x t n))
 unchanged b c m n s t x w v u = (w, (record { queued = u.queued; slot = refl }, v.1))
+
+gets_more : (P : Program) (p q : Peeked) → WeakerPeeked p q → (x : Part) → got_bag P p x ≤ got_bag P q x
+gets_more P p q w x = peeked_less (λ y. got_bag P y x ≤ got_bag P q x) (omega arith) p q w (omega arith)
 
 reaps_more : (P : Program) (p q : Peeked) → WeakerPeeked p q → (x : Part) → reaped P p x ≤ reaped P q x
 reaps_more P p q w x = peeked_less (λ y. reaped P y x ≤ reaped P q x) (omega arith) p q w (omega arith)
@@ -159,6 +137,7 @@ grows P lists z (ops.PrepFsync f d) b c m n w v h = locked_grows WeakerSubmittin
 grows P lists z ops.PrepNop b c m n w v h = locked_grows WeakerSubmitting _ _ _ m.sq n.sq h (λ s t a u. unchanged b c m n s t _ w v u) v.0
 grows P lists z ops.PrepOther b c m n w v h = locked_grows WeakerSubmitting _ _ _ m.sq n.sq h (λ s t a u. unchanged b c m n s t _ w v u) v.0
 grows P lists z (ops.SetData64 u) b c m n w v h = locked_grows WeakerSubmitting _ _ _ m.sq n.sq h (λ s t a x. unchanged _ _ m n s t _ (λ p. omega (arith, w p)) v x) v.0
+grows P lists z ops.CqeGetData64 b c m n w v h = locked_grows WeakerPeeked _ _ _ m.cq n.cq h (λ p q a u. (λ x. omega (arith, w x, gets_more P p q u x), (v.0, peeked_refl Got))) v.1
 grows P lists z ops.CqeSeen b c m n w v h = locked_grows WeakerPeeked _ _ _ m.cq n.cq h (λ p q a u. (λ x. omega (arith, w x, reaps_more P p q u x), (v.0, peeked_refl Unseen))) v.1
 grows P lists z _ b c m n w v h = (w, v)
 
@@ -175,11 +154,24 @@ plain_grow E g s t w = goes_grow (λ b m. []) E g s t w (no_asks s)
 sq_less : AsksLess (λ b m. with_lock 1 m.sq (λ s. []))
 sq_less b c m n w v = locked_less WeakerSubmitting _ _ m.sq n.sq (λ s t u. tt) v.0
 
-peek_less : AsksLess (λ b m. with_lock 1 m.cq (λ p. []))
-peek_less b c m n w v = locked_less WeakerPeeked _ _ m.cq n.cq (λ p q u. tt) v.1
+cq_less : AsksLess (λ b m. with_lock 1 m.cq (λ p. []))
+cq_less b c m n w v = locked_less WeakerPeeked _ _ m.cq n.cq (λ p q u. tt) v.1
+
+-- nothing is got
+abbrev seen_asks : Peeked → List (ℕ × Premise)
+seen_asks p = (20, Is (not (is_got p))) ∷ []
+
+still_seen : (p q : Peeked) → WeakerPeeked p q → not (is_got p) ≡ true → not (is_got q) ≡ true
+still_seen p q w = subst (λ b. not b ≡ true) (got_same p q w)
+
+seen_less : AsksLess (λ b m. seen_asks (peeked_of m))
+seen_less b c m n w v = (refl, still_seen (peeked_of m) (peeked_of n) (peeked_weaker m n v), tt)
+
+peek_less : AsksLess (λ b m. with_lock 1 m.cq seen_asks)
+peek_less b c m n w v = locked_less WeakerPeeked _ _ m.cq n.cq (λ p q u. (refl, still_seen p q u, tt)) v.1
 
 pool_less : (P : Program) (lists : List Items) (z : Bool) (pool : Option ℕ) → AsksLess (λ b m. premises_of P lists z b m (pool_needs pool))
-pool_less P lists z None b c m n w v = locked_less WeakerSubmitting _ _ m.sq n.sq (λ s t u. peek_less b c m n w v) v.0
+pool_less P lists z None b c m n w v = locked_less WeakerSubmitting _ _ m.sq n.sq (λ s t u. cq_less b c m n w v) v.0
 pool_less P lists z (Some k) b c m n w v = tt
 
 test_less : (P : Program) (lists : List Items) (z : Bool) (test : Test) → AsksLess (λ b m. premises_of P lists z b m (test_needs test))
@@ -222,21 +214,23 @@ left_less : (P : Program) (m n : Mode) → WeakerMode m n → nat_le (sq_of m).q
 left_less P m n v h = below (sq_of n).queued (sq_of m).queued P.left (sq_weaker m n v).queued h
 
 leave_less : (P : Program) (lists : List Items) (z : Bool) (r : Bool) → AsksLess (λ b m. premises_of P lists z b m (leave_needs r))
-leave_less P lists z true b c m n w v = (refl, closed_less m n v, (refl, left_less P m n v, tt))
-leave_less P lists z false b c m n w v = (refl, closed_less m n v, tt)
+leave_less P lists z true b c m n w v = (refl, closed_less m n v, (refl, left_less P m n v, seen_less b c m n w v))
+leave_less P lists z false b c m n w v = (refl, closed_less m n v, seen_less b c m n w v)
 
-release_less : (P : Program) (lists : List Items) (z : Bool) (r : Bool) → AsksLess (λ b m. premises_of P lists z b m (release_needs r))
-release_less P lists z true b c m n w v = leave_less P lists z true b c m n w v
-release_less P lists z false b c m n w v = tt
+release_less : (P : Program) (lists : List Items) (z : Bool) (sq cq : Bool) → AsksLess (λ b m. premises_of P lists z b m (release_needs sq cq))
+release_less P lists z true true b c m n w v = leave_less P lists z true b c m n w v
+release_less P lists z true false b c m n w v = (refl, closed_less m n v, (refl, left_less P m n v, tt))
+release_less P lists z false true b c m n w v = seen_less b c m n w v
+release_less P lists z false false b c m n w v = tt
 
 queue_grows : (P : Program) (items : Items) (m n : Mode) → WeakerMode m n → keeps_queue (queue_on P items) m ≡ true → keeps_queue (queue_on P items) n ≡ true
 queue_grows P items m n v h = let g = and_parts _ _ h in and_from _ _ (closed_less m n v g.0) (below (sq_of n).queued (sq_of m).queued (queue_on P items) (sq_weaker m n v).queued g.1)
 
 abbrev loop_asks : Program → ℕ → Items → Bool → (Part → ℕ) → Mode → List (ℕ × Premise)
-loop_asks P k items z b m = (k, Is (keeps_queue (queue_on P items) m)) ∷ (k, Covers b (bag_on z items)) ∷ []
+loop_asks P k items z b m = (k, Is (keeps_queue (queue_on P items) m)) ∷ (k, Covers b (bag_on z items)) ∷ seen_asks (peeked_of m)
 
 loop_less : (P : Program) (k : ℕ) (items : Items) (z : Bool) → AsksLess (λ b m. loop_asks P k items z b m)
-loop_less P k items z b c m n w v = (refl, queue_grows P items m n v, (refl, λ h p. omega (arith, h p, w p), tt))
+loop_less P k items z b c m n w v = (refl, queue_grows P items m n v, (refl, λ h p. omega (arith, h p, w p), seen_less b c m n w v))
 
 top_grows : (P : Program) (items : Items) (z : Bool) (s t : Label) → Weaker s t → Weaker (top P items z s) (top P items z t)
 top_grows P items z s Dead w = tt
@@ -274,46 +268,10 @@ case_grows u (Live b m) (Live c n) w = go (nat_lt 0 (b (TokenOf u))) (nat_lt 0 (
         let g : nat_lt 0 (c (TokenOf u)) ≡ true = le-leb 1 (c (TokenOf u)) (omega (arith, d, w.0 (TokenOf u))) in
         absurd (cc (f, g))
 
-pub sq_agree : (o p q r : Option Submitting) → UnderLock WeakerSubmitting o q → UnderLock WeakerSubmitting p r → agree_sq o p ≡ true → agree_sq q r ≡ true
-sq_agree None p None r v w e = refl
-sq_agree (Some s) None (Some x) None v w e = refl
-sq_agree (Some s) (Some t) (Some x) (Some y) v w e = subst (λ u. same_slot u y.slot ≡ true) v.slot (subst (λ u. same_slot s.slot u ≡ true) w.slot e)
-sq_agree None p (Some x) r v w e = absurd v
-sq_agree (Some s) p None r v w e = absurd v
-sq_agree (Some s) None (Some x) (Some y) v w e = absurd w
-sq_agree (Some s) (Some t) (Some x) None v w e = absurd w
-
-pub agree_grows : (s t s' t' : Label) → Weaker s s' → Weaker t t' → agree s t ≡ true → agree s' t' ≡ true
-agree_grows s t Dead t' w v e = refl
-agree_grows s t (Live a m) Dead w v e = refl
-agree_grows Dead t (Live a m) (Live b n) w v e = absurd w
-agree_grows (Live c k) Dead (Live a m) (Live b n) w v e = absurd v
-agree_grows (Live c k) (Live d l) (Live a m) (Live b n) w v e = sq_agree k.sq l.sq m.sq n.sq w.1.0 v.1.0 e
-
--- ---- lists of labels
-
-each_append : (xs ys us vs : List Label) → EachWeaker xs ys → EachWeaker us vs → EachWeaker (xs ++ us) (ys ++ vs)
-each_append [] [] us vs h g = g
-each_append [] (y ∷ ys) us vs h g = absurd h
-each_append (x ∷ xs) [] us vs h g = absurd h
-each_append (x ∷ xs) (y ∷ ys) us vs h g = (h.0, each_append xs ys us vs h.1 g)
-
-agree_each_grows : (s t : Label) (ss ts : List Label) → Weaker s t → EachWeaker ss ts → agree_each s ss ≡ true → agree_each t ts ≡ true
-agree_each_grows s t [] [] w g e = refl
-agree_each_grows s t [] (y ∷ ts) w g e = absurd g
-agree_each_grows s t (x ∷ ss) [] w g e = absurd g
-agree_each_grows s t (x ∷ ss) (y ∷ ts) w g e = let h = and_parts (agree s x) (agree_each s ss) e in and_from _ _ (agree_grows s x t y w g.0 h.0) (agree_each_grows s t ss ts w g.1 h.1)
-
-agree_all_grows : (ss ts : List Label) → EachWeaker ss ts → agree_all ss ≡ true → agree_all ts ≡ true
-agree_all_grows [] [] g e = refl
-agree_all_grows [] (t ∷ ts) g e = absurd g
-agree_all_grows (s ∷ ss) [] g e = absurd g
-agree_all_grows (s ∷ ss) (t ∷ ts) g e = let h = and_parts (agree_each s ss) (agree_all ss) e in and_from _ _ (agree_each_grows s t ss ts g.0 g.1 h.0) (agree_all_grows ss ts g.1 h.1)
+-- ---- labellings
 
 join_less : (ss ts : List Label) → EachWeaker ss ts → Less ((15, Is (agree_all ss)) ∷ []) ((15, Is (agree_all ts)) ∷ [])
 join_less ss ts g = (refl, agree_all_grows ss ts g, tt)
-
--- ---- labellings
 
 gate_grows : (g : Bool) (s t : Label) → Weaker s t → Weaker (gate g s) (gate g t)
 gate_grows true s t w = w
@@ -373,10 +331,11 @@ module _ (P : Program) (thread : Thread) (lines : List Line) (known more : List 
   pub premises_grow : (s : Stmt) → Eases (premises P thread lines known s) (premises P thread lines more s)
   premises_grow (Do op) = both_grow (λ z b m. premises_of P thread.lists z b m (op_needs op)) (λ z. asks_less P thread.lists z op)
   premises_grow (Put pool k) = both_grow (λ z b m. premises_of P thread.lists z b m (stmt_needs (Put pool k))) (λ z. put_less P thread.lists z pool k)
-  premises_grow (EndLock o l) = both_grow (λ z b m. premises_of P thread.lists z b m (release_needs l.sq)) (λ z. release_less P thread.lists z l.sq)
+  premises_grow (EndLock o l) = both_grow (λ z b m. premises_of P thread.lists z b m (release_needs l.sq l.cq)) (λ z. release_less P thread.lists z l.sq l.cq)
   premises_grow (If test) = both_grow (λ z b m. premises_of P thread.lists z b m (test_needs test)) (λ z. test_less P thread.lists z test)
   premises_grow (EndIf o) = joins_less (λ z. here lines known z ∷ skipped thread lines known o z ∷ []) (λ z. here lines more z ∷ skipped thread lines more o z ∷ []) (ends_grow o)
-  premises_grow (Peek x) = both_grow (λ z b m. with_lock 1 m.cq (λ p. [])) (λ z. peek_less)
+  premises_grow (Peek x) = both_grow (λ z b m. with_lock 1 m.cq seen_asks) (λ z. peek_less)
+  premises_grow (EndArm o) = both_grow (λ z b m. seen_asks (peeked_of m)) (λ z. seen_less)
   premises_grow (EndPeek o) = joins_less (λ z. arm_ends lines known o z) (λ z. arm_ends lines more o z) (λ z. arms_grow lines known more o z g)
   premises_grow (Loop k) = both_grow (λ z b m. loop_asks P 13 (items_at thread.lists k) z b m) (loop_less P 13 (items_at thread.lists k))
   premises_grow (EndLoop o k) = both_grow (λ z b m. loop_asks P 14 (items_at thread.lists k) z b m) (loop_less P 14 (items_at thread.lists k))

@@ -7,5 +7,8 @@ pub mod Moves
 pub mod Headers
 pub mod Meets
 pub mod Alike
+pub mod Joins
 pub mod Both
+pub mod RoomGrows
+pub mod AgreeGrows
 pub mod Growth

@@ -14,13 +14,14 @@ use Rattle.rc_split.specs.Bags.{Part, TokenOf, credits_bag, token_bag, bag_of, m
 use Rattle.rc_split.specs.Holdings.{Holding, bag}
 use Rattle.rc_rules.specs.declared.mode.Mode.{Mode}
 use Rattle.rc_rules.specs.declared.mode.Peeked.{Peeked}
-use Rattle.rc_rules.specs.declared.mode.Peeked.TheVariants.{Unseen, Sees, SeesOther}
+use Rattle.rc_rules.specs.declared.mode.Peeked.TheVariants.{Unseen, Sees, SeesOther, Got}
 use Rattle.rc_rules.specs.declared.rule.Rule.{Rule}
 use Rattle.rc_rules.specs.declared.rule.Rule.TheVariants.{Do, Put, Lock, Release, If, Take, Case, Other, Nothing}
 use Rattle.rc_rules.specs.Labels.{Label, Dead, Live, IsSame}
 use Rattle.rc_rules.specs.OneRule.{rule_premises, rule_effect, MayFollow}
 use Rattle.rc_rules.specs.Premises.{Meets}
-use Rattle.rc_rules.specs.Rules.{kind_bag, if_locked, op_effect, peeked_of, asks, goes, test_mode, with_peeked, case_at, can_take, take_effect}
+use Rattle.rc_rules.specs.Kinds.{kind_bag}
+use Rattle.rc_rules.specs.Rules.{if_locked, op_effect, peeked_of, asks, goes, test_mode, with_peeked, case_at, can_take, take_effect}
 use Rattle.rc_rules.proofs.Room.{taken_free}
 use Rattle.rc_rules.specs.States.{Side, side_of, side_label, label_in, live_of, IsFree, IsFreeIn, IsFreeFor, GivesSide}
 
@@ -30,6 +31,7 @@ pub fewer_free : (P : Program) (a b : Part → ℕ) (pk : Peeked) → ((u : ℕ)
 fewer_free P a b Unseen l f = tt
 fewer_free P a b (Sees u) l f = (f.0, omega (arith, l u, f.1))
 fewer_free P a b SeesOther l f = tt
+fewer_free P a b Got l f = tt
 
 free_in : {A : Type 0} (P : Program) (o : Option A) (F : A → Label) → ((s : A) → IsFree P (F s)) → IsFree P (if_locked o F)
 free_in P None F h = tt
@@ -43,6 +45,7 @@ effect_free P a m (ops.PrepFsync fd d) f = free_in P m.sq _ (λ s. f)
 effect_free P a m ops.PrepNop f = free_in P m.sq _ (λ s. f)
 effect_free P a m ops.PrepOther f = free_in P m.sq _ (λ s. f)
 effect_free P a m (ops.SetData64 u) f = free_in P m.sq _ (λ s. fewer_free P a (minus a (token_bag u)) (peeked_of m) (λ v. omega arith) f)
+effect_free P a m ops.CqeGetData64 f = free_in P m.cq _ (λ p. tt)
 effect_free P a m ops.CqeSeen f = free_in P m.cq _ (λ p. tt)
 effect_free P a m _ f = f
 
@@ -50,6 +53,7 @@ same_free : (P : Program) (a b : Part → ℕ) (pk : Peeked) → ((p : Part) →
 same_free P a b Unseen e f = tt
 same_free P a b (Sees u) e f = (f.0, e (TokenOf u) ∙ f.1)
 same_free P a b SeesOther e f = tt
+same_free P a b Got e f = tt
 
 same_free_in : (P : Program) (a b : Part → ℕ) (m n : Mode) → ((p : Part) → a p ≡ b p) → m ≡ n → IsFreeIn P b n → IsFreeIn P a m
 same_free_in P a b m n e q f = same_free P a b (peeked_of m) e (subst (IsFreeIn P b) (sym q) f)

@@ -5,7 +5,7 @@ use Rattle.rc_lang.specs.declared.lines.Op.{Op}
 use Rattle.rc_lang.specs.declared.lines.Op.TheVariants as ops
 use Rattle.rc_lang.specs.declared.lines.Stmt.{Stmt}
 use Rattle.rc_lang.specs.declared.lines.Stmt.TheVariants as stmts
-use Rattle.rc_lang.specs.declared.lines.Stmt.TheVariants.{Do, Put, EndLock, If, EndIf, Peek, EndPeek, EndLoop, Break}
+use Rattle.rc_lang.specs.declared.lines.Stmt.TheVariants.{Do, Put, EndLock, If, EndIf, Peek, EndArm, EndPeek, EndLoop, Break}
 use Rattle.rc_lang.specs.declared.lines.Test.{Test}
 use Rattle.rc_lang.specs.declared.lines.Test.TheVariants.{Compare, Take, Any}
 use Rattle.rc_lang.specs.Program.{Program, Items, items_at}
@@ -17,12 +17,14 @@ use Rattle.rc_rules.specs.Premises.{Premise}
 use Rattle.rc_rules.specs.Rules.{asked, asks, asks_both, leave_needs, premises_of, release_needs, stmt_needs}
 
 leave_ordered : (releases : Bool) → AreOrdered 0 (leave_needs releases)
-leave_ordered true = (omega arith, (omega arith, tt))
-leave_ordered false = (omega arith, tt)
+leave_ordered true = (omega arith, (omega arith, (omega arith, tt)))
+leave_ordered false = (omega arith, (omega arith, tt))
 
-release_ordered : (releases : Bool) → AreOrdered 0 (release_needs releases)
-release_ordered true = leave_ordered true
-release_ordered false = tt
+release_ordered : (sq cq : Bool) → AreOrdered 0 (release_needs sq cq)
+release_ordered true true = (omega arith, (omega arith, (omega arith, tt)))
+release_ordered true false = (omega arith, (omega arith, tt))
+release_ordered false true = (omega arith, tt)
+release_ordered false false = tt
 
 pub ordered : (s : Stmt) → AreOrdered 0 (stmt_needs s)
 ordered (Do (ops.Load x b i)) = (omega arith, (omega arith, tt))
@@ -37,21 +39,23 @@ ordered (Do ops.PrepOther) = (omega arith, (omega arith, tt))
 ordered (Do (ops.SetData64 u)) = (omega arith, (omega arith, (omega arith, (omega arith, tt))))
 ordered (Do (ops.Submit x)) = (omega arith, (omega arith, tt))
 ordered (Do (ops.SubmitAndWait x n)) = (omega arith, (omega arith, tt))
+ordered (Do ops.CqeGetData64) = (omega arith, (omega arith, tt))
 ordered (Do ops.CqeSeen) = (omega arith, (omega arith, tt))
 ordered (Do _) = tt
 ordered (Put None k) = (omega arith, (omega arith, (omega arith, tt)))
 ordered (Put (Some n) k) = (omega arith, tt)
-ordered (EndLock o l) = release_ordered l.sq
+ordered (EndLock o l) = release_ordered l.sq l.cq
 ordered (If (Compare x c n)) = tt
 ordered (If (Take None k)) = (omega arith, (omega arith, tt))
 ordered (If (Take (Some n) k)) = tt
 ordered (If Any) = tt
 ordered (If _) = (omega arith, tt)
 ordered (EndIf o) = (omega arith, tt)
-ordered (Peek x) = (omega arith, tt)
+ordered (Peek x) = (omega arith, (omega arith, tt))
+ordered (EndArm o) = (omega arith, tt)
 ordered (EndPeek o) = (omega arith, tt)
-ordered (stmts.Loop k) = (omega arith, tt)
-ordered (EndLoop o k) = (omega arith, tt)
+ordered (stmts.Loop k) = (omega arith, (omega arith, tt))
+ordered (EndLoop o k) = (omega arith, (omega arith, tt))
 ordered (Break o releases leaves) = leave_ordered releases.sq
 ordered _ = tt
 
@@ -70,6 +74,7 @@ op_same P lists z bag m ops.PrepOther = refl
 op_same P lists z bag m (ops.SetData64 u) = refl
 op_same P lists z bag m (ops.Submit x) = refl
 op_same P lists z bag m (ops.SubmitAndWait x n) = refl
+op_same P lists z bag m ops.CqeGetData64 = refl
 op_same P lists z bag m ops.CqeSeen = refl
 op_same P lists z bag m _ = refl
 
@@ -80,9 +85,11 @@ left_same P lists z bag m false = refl
 pub leave_same : (P : Program) (lists : List Items) (z : Bool) (bag : Part → ℕ) (m : Mode) (o : ℕ) (releases : Locks) (leaves : Bool) → premises_of P lists z bag m (stmt_needs (Break o releases leaves)) ≡ line_premises P [] bag m (Break 0 releases false)
 leave_same P lists z bag m o releases leaves = left_same P lists z bag m releases.sq
 
-release_same : (P : Program) (lists : List Items) (z : Bool) (bag : Part → ℕ) (m : Mode) (releases : Bool) → premises_of P lists z bag m (release_needs releases) ≡ premises_of P [] true bag m (release_needs releases)
-release_same P lists z bag m true = refl
-release_same P lists z bag m false = refl
+release_same : (P : Program) (lists : List Items) (z : Bool) (bag : Part → ℕ) (m : Mode) (sq cq : Bool) → premises_of P lists z bag m (release_needs sq cq) ≡ premises_of P [] true bag m (release_needs sq cq)
+release_same P lists z bag m true true = refl
+release_same P lists z bag m true false = refl
+release_same P lists z bag m false true = refl
+release_same P lists z bag m false false = refl
 
 put_same : (P : Program) (lists : List Items) (z : Bool) (bag : Part → ℕ) (m : Mode) (pool : Option ℕ) (k : ℕ) → premises_of P lists z bag m (stmt_needs (Put pool k)) ≡ line_premises P (items_at lists k ∷ []) bag m (Put pool 0)
 put_same P lists z bag m None k = refl
@@ -108,7 +115,7 @@ pub leave_asked : (P : Program) (lists : List Items) (labels : Bool → Label) (
 leave_asked P lists labels o releases leaves = asks_same labels _ _ (λ z bag m. leave_same P lists z bag m o releases leaves)
 
 pub release_asked : (P : Program) (lists : List Items) (labels : Bool → Label) (o : ℕ) (l : Locks) → asked P lists labels (EndLock o l) ≡ asks_both labels (λ z bag m. line_premises P [] bag m (EndLock 0 l))
-release_asked P lists labels o l = asks_same labels _ _ (λ z bag m. release_same P lists z bag m l.sq)
+release_asked P lists labels o l = asks_same labels _ _ (λ z bag m. release_same P lists z bag m l.sq l.cq)
 
 pub put_asked : (P : Program) (lists : List Items) (labels : Bool → Label) (pool : Option ℕ) (k : ℕ) → asked P lists labels (Put pool k) ≡ asks_both labels (λ z bag m. line_premises P (items_at lists k ∷ []) bag m (Put pool 0))
 put_asked P lists labels pool k = asks_same labels _ _ (λ z bag m. put_same P lists z bag m pool k)

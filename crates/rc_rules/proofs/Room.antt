@@ -11,7 +11,7 @@ use Rattle.rc_split.proofs.PoolBags.{one_token, tokens_in}
 use Rattle.rc_split.proofs.Tokens.{token_most}
 use Rattle.rc_rules.specs.declared.mode.Mode.{Mode}
 use Rattle.rc_rules.specs.declared.mode.Peeked.{Peeked}
-use Rattle.rc_rules.specs.declared.mode.Peeked.TheVariants.{Unseen, Sees, SeesOther}
+use Rattle.rc_rules.specs.declared.mode.Peeked.TheVariants.{Unseen, Sees, SeesOther, Got}
 use Rattle.rc_rules.specs.Labels.{WeakerMode, WeakerPeeked}
 use Rattle.rc_rules.specs.Rules.{limit, is_within_limit, has_room, names_peeked, peeked_of, can_take}
 use Rattle.rc_rules.specs.States.{IsFreeIn, IsFreeFor}
@@ -128,6 +128,7 @@ free_with : (P : Program) (a : Part → ℕ) (pk : Peeked) (items : Items) → n
 free_with P a Unseen items e f = tt
 free_with P a (Sees u) items e f = (f.0, omega (arith, f.1, unnamed items.tokens u e))
 free_with P a SeesOther items e f = tt
+free_with P a Got items e f = tt
 
 -- What is peeked isn't held after a take either.
 pub taken_free : (P : Program) (a : Part → ℕ) (m : Mode) (items : Items) → can_take P a m items ≡ true → IsFreeIn P a m → IsFreeIn P (plus a (bag_of items)) m

@@ -1,5 +1,5 @@
 -- Labels that say less than others or the same, and what tests of slots tell.
-use Rattle.std.proofs.Common.{◌≡◌, ℕ, ◌+◌, Bool, true, false, cond, not, ◌&&◌, ◌||◌, ◌≤◌, Option, Some, None, Result, Ok, Err, List, [], ◌∷◌, ◌++◌, drop, nat_eq, suc, refl, sym, ap, subst, ◌∙◌, arith}
+use Rattle.std.proofs.Common.{◌≡◌, ◌≢◌, ℕ, ◌+◌, Bool, true, false, cond, not, ◌&&◌, ◌||◌, ◌≤◌, Option, Some, None, Result, Ok, Err, List, [], ◌∷◌, ◌++◌, drop, nat_eq, suc, refl, sym, ap, subst, ◌∙◌, arith}
 use Rattle.std.specs.Prelude.{is_some, option_map, unwrap_or}
 use Rattle.std.proofs.lemmas.Bool.{and_parts, eqb-true}
 use Rattle.rc_lang.specs.declared.lines.Locks.{Locks}
@@ -11,7 +11,7 @@ use Rattle.rc_lang.specs.declared.program.TokenKind.TheVariants.{Read, Write, Fs
 use Rattle.rc_lang.specs.Program.{Program, Items}
 use Rattle.rc_rules.specs.declared.mode.Mode.{Mode}
 use Rattle.rc_rules.specs.declared.mode.Peeked.{Peeked}
-use Rattle.rc_rules.specs.declared.mode.Peeked.TheVariants.{Unseen}
+use Rattle.rc_rules.specs.declared.mode.Peeked.TheVariants.{Unseen, Sees, SeesOther, Got}
 use Rattle.rc_rules.specs.declared.mode.Slot.{Slot}
 use Rattle.rc_rules.specs.declared.mode.Slot.TheVariants.{Closed, Vacant, Prepared}
 use Rattle.rc_rules.specs.declared.mode.Submitting.{Submitting}
@@ -20,8 +20,9 @@ use Rattle.rc_rules.specs.Labellings.{label_at}
 use Rattle.rc_rules.specs.Sides.{Sides}
 use Rattle.rc_rules.specs.declared.cause.Cause.{Cause}
 use Rattle.rc_rules.specs.Causes.{premise_number}
+use Rattle.rc_rules.specs.Kinds.{same_kind}
 use Rattle.rc_rules.specs.Premises.{Premise, Meets, MeetsBelow, FailsFirst, Tests}
-use Rattle.rc_rules.specs.Rules.{locks_of, peeked_of, same_kind, same_slot, sq_of, at_most, freed, locked, test_mode, top_mode, with_peeked}
+use Rattle.rc_rules.specs.Rules.{is_got, locks_of, peeked_of, same_slot, sq_of, at_most, freed, locked, test_mode, top_mode, with_peeked}
 
 -- ---- under a lock
 
@@ -83,20 +84,34 @@ pub peeked_refl : (p : Peeked) → WeakerPeeked p p
 peeked_refl p = Same refl
 
 -- Where nothing is known, least is.
-pub unseen_least : (p : Peeked) → WeakerPeeked Unseen p
-unseen_least p = Unknown refl
+pub unseen_least : (p : Peeked) → p ≢ Got → WeakerPeeked Unseen p
+unseen_least p n = Unknown refl n
 
 -- What is true of what is peeked, and where that isn't known, is true where less is known.
 pub peeked_less : (F : Peeked → Type 0) → F Unseen → (p q : Peeked) → WeakerPeeked p q → F q → F p
 peeked_less F u p q (Same e) f = subst F (sym e) f
-peeked_less F u p q (Unknown e) f = subst F (sym e) u
+peeked_less F u p q (Unknown e n) f = subst F (sym e) u
 
 peeked_trans : (p q r : Peeked) → WeakerPeeked p q → WeakerPeeked q r → WeakerPeeked p r
-peeked_trans p q r w v = peeked_less (λ x. WeakerPeeked x r) (unseen_least r) p q w v
+peeked_trans p q r (Same e) v = subst (λ x. WeakerPeeked x r) (sym e) v
+peeked_trans p q r (Unknown e n) (Same f) = Unknown e (λ g. n (f ∙ g))
+peeked_trans p q r (Unknown e n) (Unknown f m) = Unknown e m
 
 pub peeked_same : (p q : Peeked) → WeakerPeeked p q → WeakerPeeked q p → p ≡ q
 peeked_same p q (Same e) v = e
-peeked_same p q (Unknown e) v = peeked_less (λ x. p ≡ x) e q p v refl
+peeked_same p q (Unknown e n) (Same f) = sym f
+peeked_same p q (Unknown e n) (Unknown f m) = e ∙ sym f
+
+not_got : (p : Peeked) → p ≢ Got → is_got p ≡ false
+not_got Unseen n = refl
+not_got (Sees u) n = refl
+not_got SeesOther n = refl
+not_got Got n = absurd (n refl)
+
+-- Whether it is got is always known.
+pub got_same : (p q : Peeked) → WeakerPeeked p q → is_got p ≡ is_got q
+got_same p q (Same e) = ap is_got e
+got_same p q (Unknown e n) = ap is_got e ∙ sym (not_got q n)
 
 -- ---- modes
 

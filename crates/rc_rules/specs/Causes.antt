@@ -1,7 +1,7 @@
 -- The numbers and names of causes.
 use Rattle.std.specs.Prelude.{ℕ, List, codes}
 use Rattle.rc_rules.specs.declared.cause.Cause.{Cause}
-use Rattle.rc_rules.specs.declared.cause.Cause.TheVariants.{Unlocked, NoCredit, QueueFull, SlotOpen, NoSlot, WrongKind, NotWhole, NoShare, OutOfBuffer, NoToken, NoEntry, QueueLeft, LoopEntry, LoopBody, JoinMismatch, OverShares, TokenTwice, OverCredits, NotHeld}
+use Rattle.rc_rules.specs.declared.cause.Cause.TheVariants.{Unlocked, NoCredit, QueueFull, SlotOpen, NoSlot, WrongKind, NotWhole, NoShare, OutOfBuffer, NoToken, NoEntry, QueueLeft, LoopEntry, LoopBody, JoinMismatch, OverShares, TokenTwice, OverCredits, NotHeld, NotSeen}
 
 abbrev pub premise_number : Cause → ℕ
 premise_number Unlocked = 1
@@ -23,6 +23,7 @@ premise_number OverShares = 16
 premise_number TokenTwice = 17
 premise_number OverCredits = 18
 premise_number NotHeld = 19
+premise_number NotSeen = 20
 
 abbrev pub name_of : Cause → List ℕ
 name_of Unlocked = codes "Unlocked"
@@ -44,3 +45,4 @@ name_of OverShares = codes "OverShares"
 name_of TokenTwice = codes "TokenTwice"
 name_of OverCredits = codes "OverCredits"
 name_of NotHeld = codes "NotHeld"
+name_of NotSeen = codes "NotSeen"

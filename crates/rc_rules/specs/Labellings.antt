@@ -77,7 +77,6 @@ premises P thread lines known (EndIf o) = joins_both (befores P thread lines kno
 premises P thread lines known (Case o u) = []
 premises P thread lines known (Other o) = []
 premises P thread lines known (Nothing o) = []
-premises P thread lines known (EndArm o) = []
 premises P thread lines known (EndPeek o) = joins_both (befores P thread lines known (EndPeek o))
 premises P thread lines known stmt = asked P thread.lists (here lines known) stmt
 

@@ -1,8 +1,8 @@
 -- What is known at a point of a thread, and when one label says less than another.
-use Rattle.std.specs.Prelude.{ℕ, ◌≡◌, ◌≤◌, List, [], ◌∷◌, Option, Some, None}
+use Rattle.std.specs.Prelude.{ℕ, ◌≡◌, ◌≢◌, ◌≤◌, List, [], ◌∷◌, Option, Some, None}
 use Rattle.rc_rules.specs.declared.mode.Mode.{Mode}
 use Rattle.rc_rules.specs.declared.mode.Peeked.{Peeked}
-use Rattle.rc_rules.specs.declared.mode.Peeked.TheVariants.{Unseen}
+use Rattle.rc_rules.specs.declared.mode.Peeked.TheVariants.{Unseen, Got}
 use Rattle.rc_rules.specs.declared.mode.Submitting.{Submitting}
 use Rattle.rc_split.specs.Bags.{Part, IsWithin, IsSameBag}
 
@@ -23,10 +23,10 @@ pub record WeakerSubmitting (s t : Submitting) : Type 0 where
   pub queued : t.queued ≤ s.queued
   pub slot : s.slot ≡ t.slot
 
--- What is peeked is the same, or isn't known.
+-- What is peeked is the same, or isn't known; but that its request was reaped is always known.
 pub data WeakerPeeked (s t : Peeked) : Type 0 where
   Same : s ≡ t → WeakerPeeked s t
-  Unknown : s ≡ Unseen → WeakerPeeked s t
+  Unknown : s ≡ Unseen → t ≢ Got → WeakerPeeked s t
 
 abbrev pub WeakerMode : Mode → Mode → Type 0
 WeakerMode m n = UnderLock WeakerSubmitting m.sq n.sq × UnderLock WeakerPeeked m.cq n.cq

@@ -2,6 +2,8 @@ pub mod Causes
 pub mod Labels
 pub mod Premises
 pub mod Sides
+pub mod Kinds
+pub mod Room
 pub mod Rules
 pub mod Needs
 pub mod Labellings

@@ -1,5 +1,5 @@
 -- The rule of each line: what it asks of the state before it, and the state after it.
-use Rattle.std.specs.Prelude.{ℕ, ◌+◌, ◌-◌, Bool, true, false, cond, min, List, [], ◌∷◌, ◌++◌, Option, Some, None, is_some, option_map, unwrap_or, nat_eq, nat_lt, nat_le, not, ◌&&◌, ◌||◌, slice_get}
+use Rattle.std.specs.Prelude.{ℕ, ◌+◌, ◌-◌, Bool, true, false, cond, min, List, [], ◌∷◌, ◌++◌, Option, Some, None, is_some, option_map, unwrap_or, nat_eq, nat_lt, nat_le, not, ◌&&◌}
 use Rattle.std.specs.List.{list_all, list_any}
 use Rattle.rc_lang.specs.declared.lines.Locks.{Locks}
 use Rattle.rc_lang.specs.declared.lines.Op.{Op}
@@ -9,26 +9,27 @@ use Rattle.rc_lang.specs.declared.lines.Stmt.TheVariants as stmts
 use Rattle.rc_lang.specs.declared.lines.Test.{Test}
 use Rattle.rc_lang.specs.declared.lines.Test.TheVariants.{Compare, ReadyZero, SpaceAtLeast, Take, Any}
 use Rattle.rc_lang.specs.declared.program.Share.{Share}
-use Rattle.rc_lang.specs.declared.program.Token.{Token}
 use Rattle.rc_lang.specs.declared.program.TokenKind.{TokenKind}
 use Rattle.rc_lang.specs.declared.program.TokenKind.TheVariants.{Read, Write, Fsync, Nop, Other}
-use Rattle.rc_lang.specs.Program.{Program, Items, bytes_at, items_at, shares_at, token_place}
+use Rattle.rc_lang.specs.Program.{Program, Items, bytes_at, items_at, shares_at}
 use Rattle.rc_rules.specs.declared.needs.Asks.{Asks}
 use Rattle.rc_rules.specs.declared.needs.Asks.TheVariants as needs
 use Rattle.rc_rules.specs.declared.cause.Cause.{Cause}
 use Rattle.rc_rules.specs.declared.cause.Cause.TheVariants as causes
 use Rattle.rc_rules.specs.declared.mode.Mode.{Mode}
 use Rattle.rc_rules.specs.declared.mode.Peeked.{Peeked}
-use Rattle.rc_rules.specs.declared.mode.Peeked.TheVariants.{Unseen, Sees, SeesOther}
+use Rattle.rc_rules.specs.declared.mode.Peeked.TheVariants.{Unseen, Sees, SeesOther, Got}
 use Rattle.rc_rules.specs.declared.mode.Slot.{Slot}
 use Rattle.rc_rules.specs.declared.mode.Slot.TheVariants.{Closed, Vacant, Prepared}
 use Rattle.rc_rules.specs.declared.mode.Submitting.{Submitting}
-use Rattle.rc_split.specs.Bags.{Part, ShareOf, TokenOf, Credit, shares_bag, token_bag, credits_bag, bag_of, bag_on, credits_given, lacking, plus, minus}
+use Rattle.rc_split.specs.Bags.{Part, ShareOf, TokenOf, Credit, token_bag, credits_bag, bag_of, bag_on, plus, minus}
 use Rattle.rc_split.specs.declared.part.Part.TheVariants as parts
 use Rattle.rc_split.specs.Holdings.{covers_part}
 use Rattle.rc_rules.specs.Causes.{premise_number}
+use Rattle.rc_rules.specs.Kinds.{kind_bag, kinds_of, line_bag, same_kind}
 use Rattle.rc_rules.specs.Labels.{Label, Dead, Live}
 use Rattle.rc_rules.specs.Premises.{Premise, Is, Covers}
+use Rattle.rc_rules.specs.Room.{can_queue}
 
 -- ---- what a program says
 
@@ -38,39 +39,7 @@ limit P (ShareOf b) = shares_at P.buffers b
 limit P (TokenOf u) = 1
 limit P Credit = P.completion_entries
 
--- what the line of a token says that its request is
-abbrev pub kind_in : Option Token → Option TokenKind
-kind_in None = None
-kind_in (Some token) = Some token.kind
-
-abbrev pub kind_at : List Token → Option ℕ → Option TokenKind
-kind_at tokens None = None
-kind_at tokens (Some place) = kind_in (slice_get tokens place)
-
-abbrev pub kind_of : Program → ℕ → Option TokenKind
-kind_of P u = kind_at P.tokens (token_place P.tokens u)
-
--- the shares that a request of a kind takes: all of a buffer that is read into, those that a write names
-abbrev pub kind_bag : Program → TokenKind → Part → ℕ
-kind_bag P (Read b) p = shares_bag b (shares_at P.buffers b) p
-kind_bag P (Write b k) p = shares_bag b k p
-kind_bag P Fsync p = 0
-kind_bag P Nop p = 0
-kind_bag P Other p = 0
-
-abbrev pub line_bag : Program → Option TokenKind → Part → ℕ
-line_bag P None p = 0
-line_bag P (Some kind) p = kind_bag P kind p
-
 -- ---- words of premises
-
-abbrev pub same_kind : TokenKind → TokenKind → Bool
-same_kind (Read b) (Read c) = nat_eq b c
-same_kind (Write b k) (Write c l) = nat_eq b c && nat_eq k l
-same_kind Fsync Fsync = true
-same_kind Nop Nop = true
-same_kind Other Other = true
-same_kind _ _ = false
 
 abbrev pub same_slot : Slot → Slot → Bool
 same_slot Closed Closed = true
@@ -83,15 +52,20 @@ has_kind Closed = false
 has_kind Vacant = false
 has_kind (Prepared kind) = true
 
--- the slot is prepared as the token's line says
-abbrev pub is_prepared_as : Option TokenKind → Slot → Bool
-is_prepared_as None slot = false
-is_prepared_as (Some kind) slot = same_slot slot (Prepared kind)
+-- the slot is prepared as one of the kinds
+abbrev pub is_prepared_as : List TokenKind → Slot → Bool
+is_prepared_as kinds slot = list_any (λ kind. same_slot slot (Prepared kind)) kinds
 
 abbrev pub is_seen : Peeked → Bool
 is_seen Unseen = false
 is_seen (Sees u) = true
 is_seen SeesOther = true
+is_seen Got = true
+
+-- its request was reaped
+abbrev pub is_got : Peeked → Bool
+is_got Got = true
+is_got _ = false
 
 abbrev pub is_whole : Program → (Part → ℕ) → ℕ → Bool
 is_whole P bag b = nat_le (shares_at P.buffers b) (bag (ShareOf b))
@@ -111,23 +85,6 @@ sq_of m = unwrap_or m.sq (record { queued = 0; slot = Closed })
 -- and of the front completion: without the lock of its side it isn't peeked
 abbrev pub peeked_of : Mode → Peeked
 peeked_of m = unwrap_or m.cq Unseen
-
--- how many of the credits that threads begin with aren't held
-abbrev pub credits_out : Program → (Part → ℕ) → ℕ
-credits_out P bag = credits_given P.threads - bag Credit
-
--- The tokens that aren't held are fewer than the ring's entries; and so are the credits. Each queued entry owns one token
--- and one credit.
-abbrev pub few_tokens : Program → (Part → ℕ) → Bool
-few_tokens P bag = nat_le 4 P.version && nat_lt (lacking P.tokens bag) P.entries
-
-abbrev pub few_credits : Program → (Part → ℕ) → Bool
-few_credits P bag = nat_le 5 P.version && nat_lt (credits_out P bag) P.entries
-
--- Behind so many queued entries there is room for one more, from version 4 on where few tokens are out, too, and from
--- version 5 on where few credits are.
-abbrev pub can_queue : Program → (Part → ℕ) → ℕ → Bool
-can_queue P bag queued = nat_lt queued P.entries || (few_tokens P bag || few_credits P bag)
 
 -- no slot is open, and no more entries are queued than this
 abbrev pub keeps_queue : ℕ → Mode → Bool
@@ -153,12 +110,13 @@ meant P lists z bag m needs.Room = Is (can_queue P bag (sq_of m).queued)
 meant P lists z bag m needs.Closed = Is (same_slot (sq_of m).slot Closed)
 meant P lists z bag m needs.Vacant = Is (same_slot (sq_of m).slot Vacant)
 meant P lists z bag m needs.Prepared = Is (has_kind (sq_of m).slot)
-meant P lists z bag m (needs.Line u) = Is (is_prepared_as (kind_of P u) (sq_of m).slot)
+meant P lists z bag m (needs.Line u) = Is (is_prepared_as (kinds_of P u) (sq_of m).slot)
 meant P lists z bag m (needs.Place b i) = Is (nat_lt i (bytes_at P.buffers b))
 meant P lists z bag m (needs.Length b n) = Is (nat_le n (bytes_at P.buffers b))
 meant P lists z bag m needs.Peeked = Is (is_seen (peeked_of m))
 meant P lists z bag m needs.Left = Is (nat_le (sq_of m).queued P.left)
 meant P lists z bag m needs.Agreeing = Is true
+meant P lists z bag m needs.Seen = Is (not (is_got (peeked_of m)))
 
 -- A loop has a second premise under the same number.
 abbrev pub meant_besides : Program → List Items → Mode → Asks → Premise
@@ -185,6 +143,10 @@ sq_lock = (causes.Unlocked, needs.SqLock)
 abbrev pub cq_lock : Cause × Asks
 cq_lock = (causes.Unlocked, needs.CqLock)
 
+-- A completion whose request was reaped has still to be seen.
+abbrev pub seen : Cause × Asks
+seen = (causes.NotSeen, needs.Seen)
+
 -- The pool without a name is reached under both, one with a name under any or none.
 abbrev pub pool_needs : Option ℕ → List (Cause × Asks)
 pool_needs None = sq_lock ∷ cq_lock ∷ []
@@ -204,6 +166,7 @@ op_needs ops.PrepOther = sq_lock ∷ (causes.NoSlot, needs.Vacant) ∷ []
 op_needs (ops.SetData64 u) = sq_lock ∷ (causes.NoSlot, needs.Prepared) ∷ (causes.WrongKind, needs.Line u) ∷ (causes.NoToken, needs.Part (parts.Token u)) ∷ []
 op_needs (ops.Submit x) = sq_lock ∷ (causes.SlotOpen, needs.Closed) ∷ []
 op_needs (ops.SubmitAndWait x n) = sq_lock ∷ (causes.SlotOpen, needs.Closed) ∷ []
+op_needs ops.CqeGetData64 = cq_lock ∷ (causes.NoEntry, needs.Peeked) ∷ []
 op_needs ops.CqeSeen = cq_lock ∷ (causes.NoEntry, needs.Peeked) ∷ []
 op_needs _ = []
 
@@ -216,24 +179,27 @@ test_needs Any = []
 
 -- where a loop is left, by whether the lock of the submission side is released there
 abbrev pub leave_needs : Bool → List (Cause × Asks)
-leave_needs true = (causes.SlotOpen, needs.Closed) ∷ (causes.QueueLeft, needs.Left) ∷ []
-leave_needs false = (causes.SlotOpen, needs.Closed) ∷ []
+leave_needs true = (causes.SlotOpen, needs.Closed) ∷ (causes.QueueLeft, needs.Left) ∷ seen ∷ []
+leave_needs false = (causes.SlotOpen, needs.Closed) ∷ seen ∷ []
 
--- at the closing brace of a lock, by the same
-abbrev pub release_needs : Bool → List (Cause × Asks)
-release_needs true = leave_needs true
-release_needs false = []
+-- at the closing brace of a lock, by whether it releases that of the submission side, and that of the completion side
+abbrev pub release_needs : (sq cq : Bool) → List (Cause × Asks)
+release_needs true true = (causes.SlotOpen, needs.Closed) ∷ (causes.QueueLeft, needs.Left) ∷ seen ∷ []
+release_needs true false = (causes.SlotOpen, needs.Closed) ∷ (causes.QueueLeft, needs.Left) ∷ []
+release_needs false true = seen ∷ []
+release_needs false false = []
 
 abbrev pub stmt_needs : Stmt → List (Cause × Asks)
 stmt_needs (stmts.Do op) = op_needs op
 stmt_needs (stmts.Put pool k) = pool_needs pool ++ (causes.NotHeld, needs.Items k) ∷ []
-stmt_needs (stmts.EndLock o l) = release_needs l.sq
+stmt_needs (stmts.EndLock o l) = release_needs l.sq l.cq
 stmt_needs (stmts.If test) = test_needs test
 stmt_needs (stmts.EndIf o) = (causes.JoinMismatch, needs.Agreeing) ∷ []
-stmt_needs (stmts.Peek x) = cq_lock ∷ []
+stmt_needs (stmts.Peek x) = cq_lock ∷ seen ∷ []
+stmt_needs (stmts.EndArm o) = seen ∷ []
 stmt_needs (stmts.EndPeek o) = (causes.JoinMismatch, needs.Agreeing) ∷ []
-stmt_needs (stmts.Loop k) = (causes.LoopEntry, needs.Loop k) ∷ []
-stmt_needs (stmts.EndLoop o k) = (causes.LoopBody, needs.Loop k) ∷ []
+stmt_needs (stmts.Loop k) = (causes.LoopEntry, needs.Loop k) ∷ seen ∷ []
+stmt_needs (stmts.EndLoop o k) = (causes.LoopBody, needs.Loop k) ∷ seen ∷ []
 stmt_needs (stmts.Break o releases leaves) = leave_needs releases.sq
 stmt_needs _ = []
 
@@ -251,12 +217,20 @@ opened P s m = record m { sq = Some (record { queued = min (s.queued + 1) P.entr
 abbrev pub with_slot : Slot → Submitting → Mode → Mode
 with_slot slot s m = record m { sq = Some (record s { slot = slot }) }
 
--- a reaped request gives back what it owned, as far as it is known which one it was: the shares of its token's line, the
--- token and a credit
+-- What a reaped request owned comes back, as far as it is known which one it was: the shares that each kind of its token
+-- owns, and the token.
+abbrev pub got_bag : Program → Peeked → Part → ℕ
+got_bag P Unseen p = 0
+got_bag P (Sees u) p = line_bag P (kinds_of P u) p + token_bag u p
+got_bag P SeesOther p = 0
+got_bag P Got p = 0
+
+-- A completion that is seen leaves its place in the ring, a credit; its request is reaped, unless it was before.
 abbrev pub reaped : Program → Peeked → Part → ℕ
 reaped P Unseen p = 0
-reaped P (Sees u) p = line_bag P (kind_of P u) p + token_bag u p + credits_bag 1 p
+reaped P (Sees u) p = got_bag P (Sees u) p + credits_bag 1 p
 reaped P SeesOther p = credits_bag 1 p
+reaped P Got p = credits_bag 1 p
 
 abbrev pub op_effect : Program → (Part → ℕ) → Mode → Op → Label
 op_effect P bag m ops.GetSqe = if_locked m.sq (λ s. Live (minus bag (credits_bag 1)) (opened P s m))
@@ -266,6 +240,7 @@ op_effect P bag m (ops.PrepFsync fd datasync) = if_locked m.sq (λ s. Live bag (
 op_effect P bag m ops.PrepNop = if_locked m.sq (λ s. Live bag (with_slot (Prepared Nop) s m))
 op_effect P bag m ops.PrepOther = if_locked m.sq (λ s. Live bag (with_slot (Prepared Other) s m))
 op_effect P bag m (ops.SetData64 u) = if_locked m.sq (λ s. Live (minus bag (token_bag u)) (with_slot Closed s m))
+op_effect P bag m ops.CqeGetData64 = if_locked m.cq (λ p. Live (plus bag (got_bag P p)) (record m { cq = Some Got }))
 op_effect P bag m ops.CqeSeen = if_locked m.cq (λ p. Live (plus bag (reaped P p)) (record m { cq = Some Unseen }))
 op_effect P bag m _ = Live bag m
 
@@ -326,11 +301,12 @@ abbrev pub has_room : Program → (Part → ℕ) → Items → Bool
 has_room P bag items =
     list_all (λ (s : Share). is_within_limit P bag items (ShareOf s.buffer)) items.shares && list_all (λ u. is_within_limit P bag items (TokenOf u)) items.tokens && is_within_limit P bag items Credit
 
--- The request whose completion is peeked owns its token.
+-- The request whose completion is peeked owns its token, until it is reaped.
 abbrev pub names_peeked : List ℕ → Peeked → Bool
 names_peeked tokens Unseen = false
 names_peeked tokens (Sees u) = list_any (λ v. nat_eq v u) tokens
 names_peeked tokens SeesOther = false
+names_peeked tokens Got = false
 
 -- A pool may have the items: neither the thread nor the request that is peeked has them, as far as they are known to.
 abbrev pub can_take : Program → (Part → ℕ) → Mode → Items → Bool
@@ -371,13 +347,23 @@ peek_at peeked s = goes s (λ bag m. Live bag (with_peeked peeked m))
 abbrev pub case_at : ℕ → Label → Label
 case_at u s = goes s (λ bag m. cond (nat_lt 0 (bag (TokenOf u))) Dead (Live bag (with_peeked (Sees u) m)))
 
--- Ends that are alive have their slots at one stage.
+-- Ends that are alive have their slots at one stage, and the front completion is got at all of them or at none.
 abbrev pub agree_sq : Option Submitting → Option Submitting → Bool
 agree_sq (Some s) (Some t) = same_slot s.slot t.slot
 agree_sq _ _ = true
 
+abbrev pub same_got : Peeked → Peeked → Bool
+same_got p q = cond (is_got p) (is_got q) (not (is_got q))
+
+abbrev pub agree_cq : Option Peeked → Option Peeked → Bool
+agree_cq (Some p) (Some q) = same_got p q
+agree_cq _ _ = true
+
+abbrev pub agree_modes : Mode → Mode → Bool
+agree_modes m n = agree_sq m.sq n.sq && agree_cq m.cq n.cq
+
 abbrev pub agree : Label → Label → Bool
-agree (Live a m) (Live b n) = agree_sq m.sq n.sq
+agree (Live a m) (Live b n) = agree_modes m n
 agree _ _ = true
 
 abbrev pub agree_each : Label → List Label → Bool

@@ -1,27 +1,29 @@
 -- What the calls of `State` do.
-use Rattle.std.specs.Prelude.{ℕ, ◌≡◌, ◌≤◌, ◌+◌, ◌^◌, Bool, true, false, List, [], ◌∷◌, Option, Some, None, Result, Ok, Err, cond, max, nat_eq, nat_le, slice_get, ◌||◌}
+use Rattle.std.specs.Prelude.{ℕ, ◌≡◌, ◌≤◌, ◌+◌, ◌^◌, Bool, true, false, List, [], ◌∷◌, Option, Some, None, Result, Ok, Err, cond, max, nat_eq, nat_le, slice_get, ◌||◌, All}
 use Rattle.rc_lang.specs.declared.lines.Locks.{Locks}
 use Rattle.rc_lang.specs.declared.lines.Op.{Op}
 use Rattle.rc_lang.specs.declared.lines.Stmt.{Stmt}
 use Rattle.rc_lang.specs.declared.lines.Stmt.TheVariants.{Do, If, Loop, Put}
 use Rattle.rc_lang.specs.declared.lines.Test.{Test}
-use Rattle.rc_lang.specs.declared.program.TokenKind.{TokenKind}
+use Rattle.rc_lang.specs.declared.program.Token.{Token}
 use Rattle.rc_lang.specs.declared.program.Share.{Share}
 use Rattle.rc_lang.specs.Locks.{no_lock, without_locks}
 use Rattle.rc_lang.specs.Program.{Program, Thread, Items, DeclaresToken, IsTokenKind, shares_at}
 use Rattle.rc_rules.specs.declared.cause.Cause.{Cause}
 use Rattle.rc_rules.specs.declared.mode.Mode.{Mode}
 use Rattle.rc_rules.specs.declared.mode.Peeked.{Peeked}
-use Rattle.rc_rules.specs.declared.mode.Peeked.TheVariants.{Unseen, Sees, SeesOther}
+use Rattle.rc_rules.specs.declared.mode.Peeked.TheVariants.{Unseen, Sees, SeesOther, Got}
 use Rattle.rc_rules.specs.declared.mode.Submitting.{Submitting}
 use Rattle.rc_split.specs.Bags.{Part, ShareOf, TokenOf, lacking}
 use Rattle.rc_split.specs.Holdings.{Holding, bag}
 use Rattle.rc_rules.specs.declared.needs.Asks.{Asks}
 use Rattle.rc_rules.specs.Causes.{premise_number}
+use Rattle.rc_rules.specs.Kinds.{kinds_at}
 use Rattle.rc_rules.specs.Labellings.{start_of}
 use Rattle.rc_rules.specs.Labels.{Label, Dead, Live, IsStrongest, IsSame}
 use Rattle.rc_rules.specs.Needs.{IsMetOn, line_premises}
-use Rattle.rc_rules.specs.Rules.{agree, asked, asks, asks_both, credits_out, entered, goes, locks_of, op_effect, peeked_of, premises_of, put_effect, stmt_needs, test_effect, top}
+use Rattle.rc_rules.specs.Rules.{agree, asked, asks, asks_both, entered, goes, locks_of, op_effect, peeked_of, premises_of, put_effect, stmt_needs, test_effect, top}
+use Rattle.rc_rules.specs.Room.{credits_out}
 use Rattle.rc_rules.specs.declared.flag.Write.{Write}
 use Rattle.rc_rules.specs.Sides.{Sides, brings, forgets, gate, on, turns, write_of}
 use Rattle.rc_rules.specs.Premises.{Premise, Meets, FailsFirst}
@@ -101,6 +103,7 @@ abbrev pub IsFreeFor : Program → (Part → ℕ) → Peeked → Type 0
 IsFreeFor P bag Unseen = Unit {0}
 IsFreeFor P bag (Sees u) = DeclaresToken P u × (bag (TokenOf u) ≡ 0)
 IsFreeFor P bag SeesOther = Unit {0}
+IsFreeFor P bag Got = Unit {0}
 
 abbrev pub IsFreeIn : Program → (Part → ℕ) → Mode → Type 0
 IsFreeIn P bag m = IsFreeFor P bag (peeked_of m)
@@ -238,9 +241,8 @@ Follows old new (Ok m) premises effect = Meets premises × IsSame (label_in (liv
 Follows old new (Err cause) premises effect = FailsFirst (premise_number cause) premises × (new ≡ old)
 
 -- What a token's line says is true of the program.
-abbrev pub IsLine : Program → Option TokenKind → Type 0
-IsLine P None = Unit {0}
-IsLine P (Some kind) = IsTokenKind P kind
+abbrev pub IsLine : Program → Option Token → Type 0
+IsLine P token = All (IsTokenKind P) (kinds_at token)
 
 -- With the share, and with the token, no more is held than there is.
 abbrev pub share_fits : Holding → Share → Bool
@@ -255,6 +257,7 @@ abbrev pub same_peeked : Peeked → Peeked → Bool
 same_peeked Unseen Unseen = true
 same_peeked (Sees u) (Sees v) = nat_eq u v
 same_peeked SeesOther SeesOther = true
+same_peeked Got Got = true
 same_peeked _ _ = false
 
 -- what is known under a lock in both modes, where both have it
@@ -284,7 +287,8 @@ IsStart P i s = (program_of s ≡ P) × ((thread : Thread) → slice_get P.threa
 
 -- ---- what is kept
 
--- The sides are of one program. Where both are live, they have the same locks, and their slots are at one stage.
+-- The sides are of one program. Where both are live, they have the same locks, their slots are at one stage, and the front
+-- completion is got on both or on neither.
 pub record IsState (s : State) : Type 0 where
   pub program : s.other.program ≡ s.zero.program
   pub lock : AgreeOnLocks (side_label s.zero) (side_label s.other)

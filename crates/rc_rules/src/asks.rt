@@ -6,7 +6,7 @@ ghost use Rattle.rc_rules.specs.Readers.{about};
 ghost use Rattle.rc_rules.specs.Rules.{stmt_needs};
 
 use crate::cause::Cause;
-pub use crate::needs::{Asks, kind_of};
+pub use crate::needs::Asks;
 use crate::needs::{Need, needs_of};
 use rc_lang::lines::Stmt;
 

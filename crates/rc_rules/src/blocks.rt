@@ -7,7 +7,7 @@ ghost use Rattle.rc_rules.specs.Rules as rules;
 ghost use Rattle.rc_rules.specs.States as states;
 
 use crate::cause::Cause;
-use crate::mode::{Mode, Peeked, Slot, Submitting, same_slot, sq_of};
+use crate::mode::{Mode, Peeked, Slot, Submitting, is_got, same_slot, sq_of};
 use rc_lang::lines::{Locks, Test};
 use rc_lang::program::{Items, Program};
 
@@ -126,18 +126,32 @@ pub fn same_peeked(a: Peeked, b: Peeked) -> bool
     a == b
 }
 
-/// Whether both can join: where both have the lock of the submission side, their slots are at one stage.
+/// Whether both can join: where both have the lock of the submission side, their slots are at one stage; and where both
+/// have that of the completion side, the front completion is got in both or in neither.
 pub fn may_join(a: Mode, b: Mode) -> Result<(), Cause>
-    ensures { Tests result ((15, Is (rules.agree_sq a.sq b.sq)) ∷ []) }
+    ensures { Tests result ((15, Is (rules.agree_modes a b)) ∷ []) }
 {
-    match (a.sq, b.sq) {
-        (Some(a), Some(b)) => {
-            if !same_slot(a.slot, b.slot) {
-                return Err(Cause::JoinMismatch);
-            }
-            Ok(())
-        }
-        _ => Ok(()),
+    if !agree_sq(a.sq, b.sq) || !agree_cq(a.cq, b.cq) {
+        return Err(Cause::JoinMismatch);
+    }
+    Ok(())
+}
+
+fn agree_sq(a: Option<Submitting>, b: Option<Submitting>) -> bool
+    ensures { result ≡ rules.agree_sq a b }
+{
+    match (a, b) {
+        (Some(a), Some(b)) => same_slot(a.slot, b.slot),
+        _ => true,
+    }
+}
+
+fn agree_cq(a: Option<Peeked>, b: Option<Peeked>) -> bool
+    ensures { result ≡ rules.agree_cq a b }
+{
+    match (a, b) {
+        (Some(a), Some(b)) => is_got(a) == is_got(b),
+        _ => true,
     }
 }
 

@@ -44,10 +44,12 @@ pub enum Cause {
     OverCredits,
     /// An item that is put into a pool isn't held.
     NotHeld,
+    /// The request of the front completion was reaped, and the completion isn't seen.
+    NotSeen,
 }
 
 impl Cause {
-    /// The number that is printed after `V`, 1 to 19.
+    /// The number that is printed after `V`, 1 to 20.
     pub fn number(self) -> u32
         ensures { result ≡ spec.premise_number self }
     {
@@ -71,6 +73,7 @@ impl Cause {
             Cause::TokenTwice => 17,
             Cause::OverCredits => 18,
             Cause::NotHeld => 19,
+            Cause::NotSeen => 20,
         }
     }
 
@@ -98,6 +101,7 @@ impl Cause {
             Cause::TokenTwice => "TokenTwice",
             Cause::OverCredits => "OverCredits",
             Cause::NotHeld => "NotHeld",
+            Cause::NotSeen => "NotSeen",
         }
     }
 }

@@ -54,6 +54,7 @@ pub fn write_of(flag: Option<usize>, op: Op) -> Write
         Op::PrepNop => Write::Untouched,
         Op::PrepOther => Write::Untouched,
         Op::SetData64(_) => Write::Untouched,
+        Op::CqeGetData64 => Write::Untouched,
         Op::CqeSeen => Write::Untouched,
     }
 }

@@ -10,6 +10,7 @@ pub mod asks;
 mod blocks;
 pub mod cause;
 mod flag;
+pub mod kinds;
 pub mod laws;
 pub mod mode;
 pub mod needs;

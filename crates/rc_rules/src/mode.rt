@@ -25,6 +25,8 @@ pub enum Peeked {
     Sees(u64),
     /// It has none of the user data that the peek names.
     SeesOther,
+    /// Its request was reaped by `io_uring_cqe_get_data64(3)`, and it wasn't seen yet.
+    Got,
 }
 
 /// What is known of the submission side of the ring while its lock is held.
@@ -85,16 +87,6 @@ pub fn has_kind(slot: Slot) -> bool
     }
 }
 
-/// Whether the slot is prepared as a token's line says, where there is one.
-pub fn is_prepared_as(kind: Option<TokenKind>, slot: Slot) -> bool
-    ensures { result ≡ spec.is_prepared_as kind slot }
-{
-    match kind {
-        Some(kind) => same_slot(slot, Slot::Prepared(kind)),
-        None => false,
-    }
-}
-
 pub fn is_seen(peeked: Peeked) -> bool
     ensures { result ≡ spec.is_seen peeked }
 {
@@ -102,5 +94,18 @@ pub fn is_seen(peeked: Peeked) -> bool
         Peeked::Unseen => false,
         Peeked::Sees(_) => true,
         Peeked::SeesOther => true,
+        Peeked::Got => true,
+    }
+}
+
+/// Whether its request was reaped.
+pub fn is_got(peeked: Peeked) -> bool
+    ensures { result ≡ spec.is_got peeked }
+{
+    match peeked {
+        Peeked::Got => true,
+        Peeked::Unseen => false,
+        Peeked::Sees(_) => false,
+        Peeked::SeesOther => false,
     }
 }

@@ -5,15 +5,17 @@ ghost use Rattle.rc_lang.specs.Parts.{view_items};
 ghost use Rattle.rc_lang.specs.declared.lines.Stmt.TheVariants as stmts;
 ghost use Rattle.rc_rules.specs.Needs as spec;
 ghost use Rattle.rc_rules.specs.Needs.{listed};
+ghost use Rattle.rc_rules.specs.Room as room;
 ghost use Rattle.rc_rules.specs.Rules as rules;
 ghost use Rattle.rc_rules.specs.Rules.{stmt_needs};
 ghost use Rattle.rc_split.specs.Holdings.{bag};
 
 use crate::blocks::{keeps_queue, queue_on};
 use crate::cause::Cause;
-use crate::mode::{Mode, Slot, has_kind, is_prepared_as, is_seen, peeked_of, same_slot, sq_of};
-use rc_lang::lines::{Op, Stmt, Test};
-use rc_lang::program::{Items, Program, TokenKind};
+use crate::kinds::{is_prepared_as, token_of};
+use crate::mode::{Mode, Slot, has_kind, is_got, is_seen, peeked_of, same_slot, sq_of};
+use rc_lang::lines::{Locks, Op, Stmt, Test};
+use rc_lang::program::Items;
 use rc_split::holding::Holding;
 use rc_split::part::Part;
 
@@ -42,7 +44,7 @@ pub enum Asks {
     Vacant,
     /// An open entry that a prep has filled.
     Prepared,
-    /// That the open entry is prepared as the line of the token with this user data says.
+    /// That the open entry is prepared as one of the kinds that the line of the token with this user data names.
     Line(u64),
     /// That this place is below the bytes of the buffer with this number, which comes first.
     Place(usize, u32),
@@ -52,16 +54,10 @@ pub enum Asks {
     Peeked,
     /// That no more entries are queued than may be left.
     Left,
-    /// That the slots of all ends that join are at one stage.
+    /// That the slots of all ends that join are at one stage, and that the front completion is got at all or at none.
     Agreeing,
-}
-
-/// What the line of a token says that its request is: none where no token has this user_data.
-pub fn kind_of(program: &Program, user_data: u64) -> Option<TokenKind>
-    ensures { result ≡ rules.kind_of program.now user_data }
-{
-    let place = program.token_place(user_data)?;
-    program.tokens().get(place).map(|token| token.kind)
+    /// That no completion is got and not seen.
+    Seen,
 }
 
 /// A need, and the cause that is answered where it isn't met.
@@ -77,6 +73,12 @@ const CQ_LOCK: Need = (Cause::Unlocked, Asks::CqLock);
 const CLOSED: Need = (Cause::SlotOpen, Asks::Closed);
 
 const VACANT: Need = (Cause::NoSlot, Asks::Vacant);
+
+const PEEKED: Need = (Cause::NoEntry, Asks::Peeked);
+
+const SEEN: Need = (Cause::NotSeen, Asks::Seen);
+
+const LEFT: Need = (Cause::QueueLeft, Asks::Left);
 
 fn one(a: Need) -> Needs
     ensures { listed result ≡ a ∷ [] }
@@ -139,7 +141,8 @@ fn op_needs(op: Op) -> Needs
         ],
         Op::Submit(_) => two(SQ_LOCK, CLOSED),
         Op::SubmitAndWait(_, _) => two(SQ_LOCK, CLOSED),
-        Op::CqeSeen => two(CQ_LOCK, (Cause::NoEntry, Asks::Peeked)),
+        Op::CqeGetData64 => two(CQ_LOCK, PEEKED),
+        Op::CqeSeen => two(CQ_LOCK, PEEKED),
         _ => [None; 4],
     }
 }
@@ -149,20 +152,21 @@ fn leave_needs(releases: bool) -> Needs
     ensures { listed result ≡ rules.leave_needs releases }
 {
     if releases {
-        two(CLOSED, (Cause::QueueLeft, Asks::Left))
+        three(CLOSED, LEFT, SEEN)
     } else {
-        one(CLOSED)
+        two(CLOSED, SEEN)
     }
 }
 
-/// What is needed at the closing brace of a lock, by the same.
-fn release_needs(releases: bool) -> Needs
-    ensures { listed result ≡ rules.release_needs releases }
+/// What is needed at the closing brace of a lock, by which sides' locks it releases.
+fn release_needs(releases: Locks) -> Needs
+    ensures { listed result ≡ rules.release_needs releases.sq releases.cq }
 {
-    if releases {
-        leave_needs(true)
-    } else {
-        [None; 4]
+    match (releases.sq, releases.cq) {
+        (true, true) => three(CLOSED, LEFT, SEEN),
+        (true, false) => two(CLOSED, LEFT),
+        (false, true) => one(SEEN),
+        (false, false) => [None; 4],
     }
 }
 
@@ -205,13 +209,14 @@ pub fn needs_of(stmt: Stmt) -> Needs
     match stmt {
         Stmt::Do(op) => op_needs(op),
         Stmt::Put(pool, k) => put_needs(pool, k),
-        Stmt::EndLock(_, releases) => release_needs(releases.sq),
+        Stmt::EndLock(_, releases) => release_needs(releases),
         Stmt::If(test) => test_needs(test),
         Stmt::EndIf(_) => one((Cause::JoinMismatch, Asks::Agreeing)),
-        Stmt::Peek(_) => one(CQ_LOCK),
+        Stmt::Peek(_) => two(CQ_LOCK, SEEN),
+        Stmt::EndArm(_) => one(SEEN),
         Stmt::EndPeek(_) => one((Cause::JoinMismatch, Asks::Agreeing)),
-        Stmt::Loop(k) => one((Cause::LoopEntry, Asks::Loop(k))),
-        Stmt::EndLoop(_, k) => one((Cause::LoopBody, Asks::Loop(k))),
+        Stmt::Loop(k) => two((Cause::LoopEntry, Asks::Loop(k)), SEEN),
+        Stmt::EndLoop(_, k) => two((Cause::LoopBody, Asks::Loop(k)), SEEN),
         Stmt::Break(_, releases, _) => leave_needs(releases.sq),
         _ => [None; 4],
     }
@@ -279,25 +284,26 @@ pub fn is_met(holding: &Holding, lists: &[Items], zero: bool, mode: Mode, asks: 
         Asks::Closed => same_slot(sq.slot, Slot::Closed),
         Asks::Vacant => same_slot(sq.slot, Slot::Vacant),
         Asks::Prepared => has_kind(sq.slot),
-        Asks::Line(user_data) => is_prepared_as(kind_of(program, user_data), sq.slot),
+        Asks::Line(user_data) => is_prepared_as(token_of(program, user_data), sq.slot),
         Asks::Place(buffer, place) => place < program.bytes_at(buffer),
         Asks::Length(buffer, len) => len <= program.bytes_at(buffer),
         Asks::Peeked => is_seen(peeked_of(mode)),
         Asks::Left => sq.queued <= program.left(),
         Asks::Agreeing => true,
+        Asks::Seen => !is_got(peeked_of(mode)),
     }
 }
 
 /// Whether after so many queued entries there is room for one more.
 fn can_queue(holding: &Holding, queued: u32) -> bool
-    ensures { result ≡ rules.can_queue holding.now.program (bag holding.now) queued }
+    ensures { result ≡ room.can_queue holding.now.program (bag holding.now) queued }
 {
     queued < holding.program().entries() || few_tokens(holding) || few_credits(holding)
 }
 
 /// Whether the tokens that aren't held are fewer than the ring's entries, from version 4 on. Each queued entry owns one.
 fn few_tokens(holding: &Holding) -> bool
-    ensures { result ≡ rules.few_tokens holding.now.program (bag holding.now) }
+    ensures { result ≡ room.few_tokens holding.now.program (bag holding.now) }
 {
     let program = holding.program();
     program.version() >= 4 && holding.lacking() < program.entries()
@@ -306,7 +312,7 @@ fn few_tokens(holding: &Holding) -> bool
 /// Whether the credits that threads begin with and that aren't held are fewer than the ring's entries, from version 5 on.
 /// Each queued entry owns one.
 fn few_credits(holding: &Holding) -> bool
-    ensures { result ≡ rules.few_credits holding.now.program (bag holding.now) }
+    ensures { result ≡ room.few_credits holding.now.program (bag holding.now) }
 {
     let program = holding.program();
     program.version() >= 5 && credits_out(holding) < program.entries()
@@ -314,7 +320,7 @@ fn few_credits(holding: &Holding) -> bool
 
 /// How many of the credits that threads begin with aren't held.
 pub(crate) fn credits_out(holding: &Holding) -> u32
-    ensures { result ≡ rules.credits_out holding.now.program (bag holding.now) }
+    ensures { result ≡ room.credits_out holding.now.program (bag holding.now) }
 {
     holding.credits_given().saturating_sub(holding.credits())
 }

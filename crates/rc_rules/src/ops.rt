@@ -1,7 +1,9 @@
 //! The rules of statements without a block, on a holding and a mode.
 
-ghost use Rattle.std.specs.Prelude.{◌≡◌, ◌≤◌, ◌^◌, Some, true};
-ghost use Rattle.rc_lang.specs.Program.{IsProgram, IsTokenKind};
+ghost use Rattle.std.specs.Prelude.{◌≡◌, ◌≤◌, ◌<◌, ◌^◌, Some, true, length};
+ghost use Rattle.rc_lang.specs.Kinds.{kinds_in};
+ghost use Rattle.rc_lang.specs.Program.{IsProgram};
+ghost use Rattle.rc_rules.specs.Kinds as kinds;
 ghost use Rattle.rc_rules.specs.OneRule.{only_computes};
 ghost use Rattle.rc_rules.specs.Rules as rules;
 ghost use Rattle.rc_rules.specs.States as states;
@@ -10,10 +12,10 @@ ghost use Rattle.rc_split.specs.Holdings.{Gains, Loses, bag};
 ghost use Rattle.rc_rules.specs.declared.mode.Peeked.TheVariants as peeks;
 ghost use Rattle.rc_rules.specs.declared.mode.Slot.TheVariants as slots;
 
+use crate::kinds::{shares_of, token_of};
 use crate::mode::{Mode, Peeked, Slot, Submitting, peeked_of, sq_of};
-use crate::needs::kind_of;
 use rc_lang::lines::Op;
-use rc_lang::program::TokenKind;
+use rc_lang::program::{Token, TokenKind};
 use rc_split::holding::Holding;
 use rc_split::part::Part;
 
@@ -48,6 +50,7 @@ pub fn after(holding: &mut Holding, mode: Mode, op: &Op) -> Mode
         Op::PrepNop => prepared(holding, mode, TokenKind::Nop),
         Op::PrepOther => prepared(holding, mode, TokenKind::Other),
         Op::SetData64(user_data) => queued(holding, mode, user_data),
+        Op::CqeGetData64 => got(holding, mode),
         Op::CqeSeen => seen(holding, mode),
         _ => mode,
     }
@@ -86,9 +89,9 @@ fn with_slot(slot: Slot, mode: Mode) -> Mode
 
 /// A prep (`io_uring_prep_read(3)`): the shares that its request takes go to the open slot.
 fn prepared(holding: &mut Holding, mode: Mode, kind: TokenKind) -> Mode
-    requires held { bags.IsWithin (rules.kind_bag holding.old.program kind) (bag holding.old) }
+    requires held { bags.IsWithin (kinds.kind_bag holding.old.program kind) (bag holding.old) }
     ensures slot { result ≡ rules.with_slot (slots.Prepared kind) (rules.sq_of mode) mode }
-    ensures lost { Loses holding.old holding.new (rules.kind_bag holding.old.program kind) }
+    ensures lost { Loses holding.old holding.new (kinds.kind_bag holding.old.program kind) }
 {
     match kind {
         TokenKind::Read(buffer) => {
@@ -115,7 +118,24 @@ fn queued(holding: &mut Holding, mode: Mode, user_data: u64) -> Mode
     with_slot(Slot::Closed, mode)
 }
 
-/// `io_uring_cqe_seen(3)`: what the reaped request owned comes back, as far as it is known which one it was.
+/// `io_uring_cqe_get_data64(3)`: the request is reaped, and what it owned comes back, as far as it is known which one it
+/// was. The completion keeps its place in the ring until it is seen.
+fn got(holding: &mut Holding, mode: Mode) -> Mode
+    requires small { (p : bags.Part) → bag holding.old p ≤ 2 ^ 19 }
+    requires free { states.IsFreeIn holding.old.program (bag holding.old) mode }
+    ensures ring { result ≡ record mode { cq = Some peeks.Got } }
+    ensures gained { Gains holding.old holding.new (rules.got_bag holding.old.program (rules.peeked_of mode)) }
+{
+    if let Peeked::Sees(user_data) = peeked_of(mode) {
+        give_request(holding, user_data);
+    }
+    Mode {
+        cq: Some(Peeked::Got),
+        ..mode
+    }
+}
+
+/// `io_uring_cqe_seen(3)`: the completion leaves its place in the ring, and its request is reaped, unless it was before.
 fn seen(holding: &mut Holding, mode: Mode) -> Mode
     requires small { (p : bags.Part) → bag holding.old p ≤ 2 ^ 19 }
     requires free { states.IsFreeIn holding.old.program (bag holding.old) mode }
@@ -138,6 +158,7 @@ fn reap(holding: &mut Holding, peeked: Peeked)
         Peeked::Unseen => {}
         Peeked::Sees(user_data) => reap_request(holding, user_data),
         Peeked::SeesOther => holding.give(Part::Credits(1)),
+        Peeked::Got => holding.give(Part::Credits(1)),
     }
 }
 
@@ -146,37 +167,56 @@ fn reap_request(holding: &mut Holding, user_data: u64)
     requires free { states.IsFreeFor holding.old.program (bag holding.old) (peeks.Sees user_data) }
     ensures { Gains holding.old holding.new (rules.reaped holding.old.program (peeks.Sees user_data)) }
 {
-    give_line(holding, kind_of(holding.program(), user_data));
-    holding.give(Part::Token(user_data));
+    give_request(holding, user_data);
     holding.give(Part::Credits(1));
 }
 
-fn give_line(holding: &mut Holding, kind: Option<TokenKind>)
+/// What a reaped request owned comes back, but for its credit: the shares that each kind of its token takes, and the
+/// token.
+fn give_request(holding: &mut Holding, user_data: u64)
+    requires small { (p : bags.Part) → bag holding.old p ≤ 2 ^ 19 }
+    requires free { states.IsFreeFor holding.old.program (bag holding.old) (peeks.Sees user_data) }
+    ensures gained { Gains holding.old holding.new (rules.got_bag holding.old.program (peeks.Sees user_data)) }
+    ensures made { IsProgram holding.old.program }
+{
+    give_line(holding, token_of(holding.program(), user_data));
+    holding.give(Part::Token(user_data));
+}
+
+fn give_line(holding: &mut Holding, token: Option<Token>)
     requires small { (p : bags.Part) → bag holding.old p ≤ 2 ^ 19 }
     requires made { IsProgram holding.old.program }
-    requires declared { states.IsLine holding.old.program kind }
-    ensures { Gains holding.old holding.new (rules.line_bag holding.old.program kind) }
+    requires declared { states.IsLine holding.old.program token }
+    ensures { Gains holding.old holding.new (kinds.line_bag holding.old.program (kinds.kinds_at token)) }
 {
-    match kind {
-        Some(kind) => give_shares(holding, kind),
+    match token {
+        Some(token) => give_shares(holding, token),
         None => {}
     }
 }
 
-fn give_shares(holding: &mut Holding, kind: TokenKind)
+fn give_shares(holding: &mut Holding, token: Token)
     requires small { (p : bags.Part) → bag holding.old p ≤ 2 ^ 19 }
     requires made { IsProgram holding.old.program }
-    requires declared { IsTokenKind holding.old.program kind }
-    ensures { Gains holding.old holding.new (rules.kind_bag holding.old.program kind) }
+    requires declared { states.IsLine holding.old.program (Some token) }
+    ensures { Gains holding.old holding.new (kinds.line_bag holding.old.program (kinds_in token)) }
 {
-    match kind {
-        TokenKind::Read(buffer) => {
-            let shares = holding.program().shares_at(buffer);
-            holding.give(Part::Shares(buffer, shares));
-        }
-        TokenKind::Write(buffer, count) => holding.give(Part::Shares(buffer, count)),
+    match token.kind {
+        TokenKind::Read(buffer) => give_least(holding, token, buffer),
+        TokenKind::Write(buffer, _) => give_least(holding, token, buffer),
         TokenKind::Fsync => {}
         TokenKind::Nop => {}
         TokenKind::Other => {}
     }
+}
+
+/// The shares of one buffer.
+fn give_least(holding: &mut Holding, token: Token, buffer: usize)
+    requires small { (p : bags.Part) → bag holding.old p ≤ 2 ^ 19 }
+    requires declared { buffer < length holding.old.program.buffers }
+    requires few { kinds.line_bag holding.old.program (kinds_in token) (bags.ShareOf buffer) ≤ 16 }
+    ensures { Gains holding.old holding.new (bags.shares_bag buffer (kinds.line_bag holding.old.program (kinds_in token) (bags.ShareOf buffer))) }
+{
+    let count = shares_of(holding.program(), token, buffer);
+    holding.give(Part::Shares(buffer, count));
 }

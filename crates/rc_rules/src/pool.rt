@@ -99,6 +99,7 @@ fn names_peeked(tokens: &[u64], peeked: Peeked) -> bool
         Peeked::Unseen => false,
         Peeked::Sees(user_data) => names(tokens, user_data),
         Peeked::SeesOther => false,
+        Peeked::Got => false,
     }
 }
 

@@ -261,7 +261,7 @@ impl<'a> Side<'a> {
     }
 
     /// What holds where this side and another join, both of one program. Unless one is dead, both have the same locks,
-    /// and their slots are at one stage.
+    /// their slots are at one stage, and the front completion is got on both or on neither.
     pub fn meet(&mut self, other: &Side<'a>)
         requires of { other.now.program ≡ self.old.program }
         requires lock { spec.AgreeOnLocks (spec.side_label self.old) (spec.side_label other.now) }

@@ -172,8 +172,8 @@ impl<'a> State<'a> {
         self.zero.is_live() || self.other.is_live()
     }
 
-    /// What is known of the ring on a side that something reaches. On both it is known alike which locks are held
-    /// and at which stage the slot is.
+    /// What is known of the ring on a side that something reaches. On both it is known alike which locks are held, at
+    /// which stage the slot is, and whether the front completion is got.
     fn mode(&self) -> Option<Mode>
         ensures value { result ≡ spec.mode_of self.now }
         ensures alike { spec.IsState self.now }
@@ -319,6 +319,13 @@ impl<'a> State<'a> {
         self.follow(Rule::Other)
     }
 
+    /// Whether an arm may end here.
+    pub fn may_end_arm(&self) -> Result<(), Cause>
+        ensures { Tests result (spec.asked_alike self.now [] (stmts.EndArm 0)) }
+    {
+        self.checked(&[], Stmt::EndArm(0))
+    }
+
     /// After an arm nothing is peeked.
     pub fn forget_peeked(&mut self)
         ensures { spec.BecomesEach self.old self.new (rules.peek_at peeks.Unseen) }
@@ -348,7 +355,7 @@ impl<'a> State<'a> {
         self.follow(Rule::If(Test::SpaceAtLeast(n)))
     }
 
-    /// Whether the slots of all sides of both states that something reaches are at one stage. Those of one state are.
+    /// Whether all sides of both states that something reaches can join. Those of one state can.
     fn may_meet(&self, other: &State) -> Result<(), Cause>
         ensures { Tests result (rules.joins_both (λ z. spec.label_of self.now z ∷ spec.label_of other.now z ∷ [])) }
     {
@@ -359,7 +366,8 @@ impl<'a> State<'a> {
     }
 
     /// The state where this one and another join, both of one program and one thread: side by side, where the slots of
-    /// all sides that something reaches are at one stage. All of those have the same locks.
+    /// all sides that something reaches are at one stage, and the front completion is got on all of them or on none. All
+    /// of those have the same locks.
     pub fn meet(&mut self, other: &State<'a>) -> Result<(), Cause>
         requires of { spec.IsOfSame other.now self.old }
         requires alike { (y z : Bool) → spec.AgreeOnLocks (spec.label_of self.old y) (spec.label_of other.now z) }

@@ -1,5 +1,5 @@
 -- Where tokens are among those of a program, and marks at their places.
-use Rattle.std.proofs.Common.{◌≡◌, ℕ, ◌-◌, ◌<◌, ◌≤◌, Bool, true, false, cond, List, length, Option, Some, None, refl, sym, ap, ◌∙◌, subst, get_or, ltb, arith, nat_eq, nat_le}
+use Rattle.std.proofs.Common.{◌≡◌, ℕ, ◌-◌, ◌<◌, ◌≤◌, Bool, true, false, cond, List, [], length, Option, Some, None, refl, sym, ap, ◌∙◌, subst, get_or, ltb, arith, nat_eq, nat_le}
 use Rattle.std.proofs.lemmas.Bool.{eqb-true, eq-eqb, ltb-true, ltb-false}
 use Rattle.std.proofs.lemmas.List.{get_or-map, length-map}
 use Rattle.std.proofs.lemmas.List.Quantifiers.{position-Some}
@@ -13,7 +13,7 @@ use Rattle.rc_split.specs.Bags.{Part, ShareOf, TokenOf, Credit, minus, token_bag
 use Rattle.rc_split.specs.Holdings.{is_marked, token_at, bag, marked, Holds}
 
 no_token : Token
-no_token = record { user_data = 0; kind = Nop }
+no_token = record { user_data = 0; kind = Nop; others = [] }
 
 before_end : {X : Type 0} (p : X → Bool) (xs : List X) (k : ℕ) (d : X) → k < length xs → p (get_or xs k d) ≡ true → position_or_len p xs < length xs
 before_end p xs k d lt h = go (ltb k (position_or_len p xs)) refl

@@ -78,7 +78,7 @@ module _ (P : Program) (t : Thread) (j : ℕ) (w : Walk) (r : Reaches P t j w) w
       let f : (z : Bool) → Fits held (most_at j) (label_of a.before z) = λ z. subst (λ bs. Fits (locks_in bs) (most_at j) (label_of a.before z)) same (r.at.fits (o + 1) before h.before.at z) in
       let f' : (z : Bool) → Fits (locks_behind held s) (most_at j + 18) (B (label_at r.labels (o + 1) z)) = λ z. subst (λ k. Fits k (most_at j + 18) (B (label_at r.labels (o + 1) z))) (sym (locks held)) (fits_more held (most_at j) (most_at j + 18) _ (omega arith) (fits held (most_at j) (label_at r.labels (o + 1) z) (subst (λ l. Fits held (most_at j) (on z l)) (sym known) (f z)))) in
       let places_same = opens_none t j (blocks_at t.lines j) (InArm o) refl n in
-      let g' : Gives a.before new x [] (λ z. B (label_of a.before z) ∷ []) = subst (λ ps. Gives a.before new x ps (λ z. B (label_of a.before z) ∷ [])) (none_asked (label_of a.before) h.locked) g in
+      let g' = none_asked a.before new x (λ z. B (label_of a.before z) ∷ []) h.may g in
       state_alone P t j w r s e a.before new (slice_index_or r.labels (o + 1) unreached) x (λ p f l. []) (λ p f l z. B (on z l) ∷ []) h.before.of (sym known) (asked r.labels) (leads r.labels) (λ z. (f' z, tt))
       (record { branches = places_same branch_place refl; peek = places_same peek_place refl; loops = places_same loop_place refl }) none g'
 
@@ -93,7 +93,7 @@ module _ (P : Program) (t : Thread) (j : ℕ) (w : Walk) (r : Reaches P t j w) w
 
   -- No arm is refused.
   pub arm_stays : {X : Type 0} (o : ℕ) (a : Arms) (new : State) (x : Result X Cause) (bs : Bool → List Label) → OpensArm t.lines j o → w.peek ≡ Some a → Gives a.before new x (asked_alike a.before [] (Peek 0)) bs → OnErr x (new ≡ w.state)
-  arm_stays o a new x bs c q g = go x (subst (λ ps. Gives a.before new x ps bs) (none_asked (label_of a.before) (peeked_is o a (opening o c) q).locked) g)
+  arm_stays o a new x bs c q g = go x (none_asked a.before new x bs (peeked_is o a (opening o c) q).may g)
     where
       go : {X : Type 0} (x : Result X Cause) → Gives a.before new x [] bs → OnErr x (new ≡ w.state)
       go (Ok y) g = tt

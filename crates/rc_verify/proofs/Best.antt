@@ -1,5 +1,5 @@
 -- Where some labels are good, there are strongest ones, and refusals can be read off them.
-use Rattle.std.proofs.Common.{◌≡◌, ℕ, zero, suc, ◌+◌, ◌≤◌, ◌↔◌, Bool, true, false, List, [], ◌∷◌, ◌++◌, length, take, Option, Some, None, refl, sym, ap, ◌∙◌, inl, inr, arith, length-append}
+use Rattle.std.proofs.Common.{◌≡◌, ℕ, zero, suc, ◌+◌, ◌≤◌, ◌↔◌, Bool, true, false, List, [], ◌∷◌, ◌++◌, length, take, Some, refl, sym, ap, ◌∙◌, inl, inr, arith, length-append}
 use Rattle.std.specs.Prelude.{slice_get}
 use Rattle.std.proofs.lemmas.List.{length-take}
 use Rattle.std.proofs.lemmas.Option.{slice_get_within, slice_get_cases}
@@ -9,25 +9,20 @@ use Rattle.rc_lang.specs.declared.lines.Line.{Line}
 use Rattle.rc_lang.specs.Program.{Program, Thread}
 use Rattle.rc_split.specs.Bags.{Part, least}
 use Rattle.rc_rules.specs.declared.mode.Mode.{Mode}
-use Rattle.rc_rules.specs.declared.mode.Submitting.{Submitting}
 use Rattle.rc_rules.specs.Labels.{Label, Dead, Live, Weaker, WeakerMode, WeakerThanEach, IsSame, IsStrongest}
 use Rattle.rc_rules.specs.Labellings.{label_at, befores, premises, IsGood, HasLabels, IsRefusedAt, start_of}
 use Rattle.rc_rules.specs.Premises.{MeetsBelow, FailsFirst}
 use Rattle.rc_rules.specs.Sides.{Sides, on}
-use Rattle.rc_rules.specs.Rules.{agree_sq}
 use Rattle.rc_rules.specs.States.{both, AgreeOnLocks}
-use Rattle.rc_rules.proofs.Growth.{rules_grow, sq_agree}
-use Rattle.rc_rules.proofs.Alike.{slot_refl}
+use Rattle.rc_rules.proofs.Growth.{rules_grow}
+use Rattle.rc_rules.proofs.AgreeGrows.{modes_grow}
+use Rattle.rc_rules.proofs.Alike.{alike_refl, alike_slot}
 use Rattle.rc_rules.proofs.Meets.{both_strongest}
 use Rattle.rc_rules.proofs.Weaker.{locks_same, meets_below, weaker_each, weaker_refl}
 use Rattle.rc_verify.proofs.Strongest.{take_suc_at, front_good, last_good, weaker_than_more, begins, goes_on, below_strongest, known_below}
 use Rattle.rc_verify.specs.Strongest.{AreStrongest}
 
 -- ---- labels that have a common bound have a meet
-
-own_agrees : (o : Option Submitting) → agree_sq o o ≡ true
-own_agrees None = refl
-own_agrees (Some s) = slot_refl s.slot
 
 -- two modes, where both say more than a third
 modes_alike : (a b : Part → ℕ) (k m n : Mode) → WeakerMode k m → WeakerMode k n → AgreeOnLocks (Live a m) (Live b n)
@@ -37,7 +32,7 @@ meet_of : (t x y : Label) → Weaker t x → Weaker t y → (s : Label) × IsStr
 meet_of t Dead y v w = (y, record { weaker = (tt, (weaker_refl y, tt)); strongest = λ u l. l.1.0 })
 meet_of t (Live a m) Dead v w = (Live a m, record { weaker = (weaker_refl (Live a m), (tt, tt)); strongest = λ u l. l.0 })
 meet_of Dead (Live a m) (Live b n) v w = absurd v
-meet_of (Live c k) (Live a m) (Live b n) v w = (Live (least a b) (both m n), both_strongest a b (least a b) m n (both m n) (sq_agree k.sq k.sq m.sq n.sq v.1.0 w.1.0 (own_agrees k.sq)) (modes_alike a b k m n v.1 w.1) (λ p. refl) refl)
+meet_of (Live c k) (Live a m) (Live b n) v w = (Live (least a b) (both m n), both_strongest a b (least a b) m n (both m n) (modes_grow k k m n v.1 w.1 (alike_slot (Live c k) (Live c k) (alike_refl (Live c k)))) (modes_alike a b k m n v.1 w.1) (λ p. refl) refl)
 
 pub bounded_meet : (t : Label) (ss : List Label) → WeakerThanEach t ss → (s : Label) × IsStrongest s ss
 bounded_meet t [] h = (Dead, record { weaker = tt; strongest = λ u l. tt })

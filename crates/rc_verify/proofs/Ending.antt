@@ -1,6 +1,6 @@
 -- The ends of a peek's arms, and of the peek.
 use Rattle.std.proofs.Common.{◌≡◌, ℕ, ◌+◌, Bool, true, false, List, [], ◌∷◌, ◌++◌, append_assoc, take, Option, Some, None, Result, Ok, Err, refl, sym, ap, subst, ◌∙◌, arith}
-use Rattle.std.specs.Prelude.{IfSome, IsSome}
+use Rattle.std.specs.Prelude.{IfSome, IsSome, OnOk}
 use Rattle.rc_lang.specs.declared.lines.Block.{Block}
 use Rattle.rc_lang.specs.declared.lines.Block.TheVariants.{InPeek, InArm}
 use Rattle.rc_lang.specs.declared.lines.Locks.{Locks}
@@ -12,25 +12,26 @@ use Rattle.rc_lang.proofs.Closing.{ClosesArm, closes_arm, closes_peek}
 use Rattle.rc_rules.specs.declared.cause.Cause.{Cause}
 use Rattle.rc_rules.specs.declared.mode.Peeked.TheVariants.{Unseen}
 use Rattle.rc_rules.specs.Causes.{premise_number}
-use Rattle.rc_rules.specs.Labels.{Label, Dead, IsStrongest}
+use Rattle.rc_rules.specs.Labels.{Label, IsStrongest}
 use Rattle.rc_rules.specs.Labellings.{arm_ends}
-use Rattle.rc_rules.specs.Premises.{FailsFirst}
-use Rattle.rc_rules.specs.Rules.{agree_all, joins_both, peek_at}
-use Rattle.rc_rules.specs.Sides.{Sides}
+use Rattle.rc_rules.specs.Needs.{line_premises}
+use Rattle.rc_rules.specs.Premises.{FailsFirst, Premise}
+use Rattle.rc_rules.specs.Rules.{agree_all, asks_both, joins_both, peek_at}
+use Rattle.rc_rules.specs.Sides.{Sides, on}
 use Rattle.rc_rules.specs.States.{State, AgreeOnLocks, IsOfSame, OnBoth, label_of, sides_of}
-use Rattle.rc_verify.specs.Arms.{ClosesPeek, EndsArm, EndsArmIn, JoinsOn, two}
+use Rattle.rc_verify.specs.Arms.{ClosesPeek, EndsArm, EndsArmIn, JoinsOn, LeavesArm, two}
 use Rattle.rc_verify.specs.declared.arms.Arms.{Arms}
 use Rattle.rc_verify.specs.declared.walk.Walk.{Walk}
-use Rattle.rc_verify.specs.Walk.{AreKept, Fits, HasCq, IsMeet, IsPeeked, IsSaved, PassesLine, Reaches, branch_place, listed, loop_place, most_at, peek_place, places}
+use Rattle.rc_verify.specs.Walk.{AreKept, CanPeek, Fits, IsMeet, IsPeeked, IsSaved, PassesLine, Reaches, branch_place, listed, loop_place, most_at, peek_place, places}
 use Rattle.rc_verify.proofs.Agreeing.{all_agree, never_all, not_all}
 use Rattle.rc_verify.proofs.Arming.{Armed, armed, peek_alone, some_armed}
+use Rattle.rc_verify.proofs.Branching.{on_ok}
 use Rattle.rc_verify.proofs.Ends.{own_arm, strongest_more}
 use Rattle.rc_verify.proofs.Fit.{fits_alike, fits_more, peek_fits, strongest_fits}
 use Rattle.rc_verify.proofs.Joining.{differ_all, fails_join}
 use Rattle.rc_verify.proofs.Keeping.{places_more, places_pushed, pushed_none}
-use Rattle.rc_verify.proofs.Peeking.{dead_strongest, dead_fits}
 use Rattle.rc_verify.proofs.Plainly.{branches_same, loops_same}
-use Rattle.rc_verify.proofs.Standing.{arms_next, fits_here, of_same, onward, refused, same_of, saved_on}
+use Rattle.rc_verify.proofs.Standing.{arms_next, fits_here, here_is, of_same, onward, passes, refused, same_of, saved_on, seen_at, took}
 
 -- ---- one more end on each side
 
@@ -94,7 +95,7 @@ module _ (P : Program) (t : Thread) (j : ℕ) (w : Walk) (r : Reaches P t j w) w
       let q : (z : Bool) → arm_ends (take (j + 1) t.lines) labels o z ≡ xs z ++ y z ∷ [] = λ z. arms_next P t j w r (EndArm o) e new o z ∙ ap (λ ys. xs z ++ ys) (own_arm o (label_of w.state z)) in
       record {
         before = subst (λ (s : State). IsSaved P t labels (o + 1) s) (sym g.before) (saved_on P t r.labels new (o + 1) a.before h.before);
-        locked = subst (λ (s : State). OnBoth HasCq s) (sym g.before) h.locked;
+        may = subst (λ (s : State). OnBoth CanPeek s) (sym g.before) h.may;
         of = of_same P t a'.ends a.ends h.of g.of;
         agree =
             ap (λ zs. agree_all (zs ++ arm_ends (take (j + 1) t.lines) labels o false)) (q true) ∙ ap (λ zs. agree_all ((xs true ++ y true ∷ []) ++ zs)) (q false)
@@ -106,24 +107,37 @@ module _ (P : Program) (t : Thread) (j : ℕ) (w : Walk) (r : Reaches P t j w) w
         };
       }
 
-  pub arm_end_passes : (o : ℕ) (new : State) (peek : Option Arms) → stmt_at t.lines j ≡ Some (EndArm o) → OnBoth (λ s. s ≡ Dead) new → IsOfSame new w.state → ((a : Arms) → w.peek ≡ Some a → EndsArmIn a peek w.state) → Reaches P t (j + 1) (record { state = new; branches = w.branches; peek = peek; loops = w.loops })
-  arm_end_passes o new peek e d p g =
+  -- what is kept after the line
+  abbrev EndsOne : Option Arms → Type 0
+  EndsOne peek = (a : Arms) → w.peek ≡ Some a → EndsArmIn a peek w.state
+
+  pub arm_end_passes : {X : Type 0} (o : ℕ) (new : State) (peek : Option Arms) (x : Result X Cause) → stmt_at t.lines j ≡ Some (EndArm o) → LeavesArm w.state new x → OnOk x (EndsOne peek) → PassesLine P t j (record { state = new; branches = w.branches; peek = peek; loops = w.loops }) x
+  arm_end_passes o new peek x e g k =
       let w' : Walk = record { state = new; branches = w.branches; peek = peek; loops = w.loops } in
-      let R = IsPeeked P t (j + 1) (r.labels ++ sides_of new ∷ []) in
-      let c = closes_arm t.lines r.thread.nested.each j o e in
-      let a = ending o c in
-      let h = g a.arms a.is in
-      let one : AreKept R (o ∷ []) (h.0 ∷ []) = (ended o a.arms h.0 (sides_of new) e a.holds h.2, tt) in
-      let q : places peek_place (blocks_at t.lines (j + 1)) ≡ o ∷ [] = ap (places peek_place) c.behind ∙ places_pushed peek_place (blocks_at t.lines o) (InPeek o) ∙ ap (λ os. os ++ o ∷ []) (peek_alone P t j w r o c.variable c.stands) in
-      onward P t j w r (EndArm o) e w' tt (λ z. dead_strongest (label_of new z) (d z)) (of_same P t new w.state r.at.here.of p) (λ z. dead_fits (locks_in (blocks_at t.lines (j + 1))) (most_at (j + 1)) (label_of new z) (d z))
-      (record {
+      let F : Program → Option ℕ → Sides → List (ℕ × Premise) = λ p f l. asks_both (λ z. on z l) (λ z bag m. line_premises p [] bag m (EndArm 0)) in
+      let gave = took P t w.state new (seen_at t j r.labels) x F (λ p f l z. []) r.at.here.of (here_is P t j w r (EndArm o) e) g in
+      passes P t j w r (EndArm o) e w' x gave
+      (λ b z. strongest_fits (locks_in (blocks_at t.lines (j + 1))) (most_at (j + 1)) (label_of new z) [] tt (b z))
+      (λ y q. record {
         branches = branches_same P t j w r (EndArm o) e (sides_of new) (same branch_place refl);
-        peek = subst (λ os. AreKept R os (listed peek)) (sym q) (subst (λ (z : Option Arms). AreKept R (o ∷ []) (listed z)) (sym h.1) one);
+        peek = grown (on_ok (EndsOne peek) x y k q);
         loops = loops_same P t j w r (EndArm o) e (sides_of new) (λ p z. refl) (same loop_place refl);
       })
     where
+      c : ClosesArm t.lines j o
+      c = closes_arm t.lines r.thread.nested.each j o e
+
       same : (f : Block → List ℕ) → f (InArm o) ≡ [] → places f (blocks_at t.lines (j + 1)) ≡ places f (blocks_at t.lines j)
-      same f n = let c = closes_arm t.lines r.thread.nested.each j o e in ap (places f) c.behind ∙ sym (ap (places f) (grouped o c) ∙ pushed_none f (blocks_at t.lines o ++ InPeek o ∷ []) (InArm o) n)
+      same f n = ap (places f) c.behind ∙ sym (ap (places f) (grouped o c) ∙ pushed_none f (blocks_at t.lines o ++ InPeek o ∷ []) (InArm o) n)
+
+      grown : EndsOne peek → AreKept (IsPeeked P t (j + 1) (r.labels ++ sides_of new ∷ [])) (places peek_place (blocks_at t.lines (j + 1))) (listed peek)
+      grown k =
+          let R = IsPeeked P t (j + 1) (r.labels ++ sides_of new ∷ []) in
+          let a = ending o c in
+          let h = k a.arms a.is in
+          let one : AreKept R (o ∷ []) (h.0 ∷ []) = (ended o a.arms h.0 (sides_of new) e a.holds h.2, tt) in
+          let q : places peek_place (blocks_at t.lines (j + 1)) ≡ o ∷ [] = ap (places peek_place) c.behind ∙ places_pushed peek_place (blocks_at t.lines o) (InPeek o) ∙ ap (λ os. os ++ o ∷ []) (peek_alone P t j w r o c.variable c.stands) in
+          subst (λ os. AreKept R os (listed peek)) (sym q) (subst (λ (z : Option Arms). AreKept R (o ∷ []) (listed z)) (sym h.1) one)
 
   -- ---- the end of the peek
 

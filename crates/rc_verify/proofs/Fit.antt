@@ -1,5 +1,6 @@
 -- Which labels fit a place in these locks, and how many of each part are held there.
-use Rattle.std.proofs.Common.{◌≡◌, ℕ, ◌+◌, ◌^◌, ◌≤◌, Bool, true, false, cond, not, nat_lt, unwrap_or, None, List, [], ◌∷◌, refl, sym, ap, subst, ◌∙◌, ◌⊎◌, inl, inr, arith}
+use Rattle.std.proofs.Common.{◌≡◌, ℕ, ◌+◌, ◌^◌, ◌≤◌, Bool, true, false, cond, not, nat_lt, unwrap_or, Option, None, Some, List, [], ◌∷◌, refl, sym, ap, subst, ◌∙◌, ◌⊎◌, inl, inr, arith}
+use Rattle.std.specs.Prelude.{option_map}
 use Rattle.rc_lang.specs.declared.lines.Locks.{Locks}
 use Rattle.rc_lang.specs.declared.lines.Stmt.TheVariants.{Break}
 use Rattle.rc_lang.specs.declared.lines.Op.{Op}
@@ -16,16 +17,16 @@ use Rattle.rc_rules.specs.Labels.{Label, Dead, Live, Weaker, WeakerPeeked, Weake
 use Rattle.rc_rules.specs.Labellings.{start_of}
 use Rattle.rc_rules.specs.Sides.{brings, gate, on}
 use Rattle.rc_rules.specs.Needs.{line_premises}
-use Rattle.rc_rules.specs.Rules.{same_slot, op_effect, put_effect, can_take, has_room, locks_of, names_peeked, peeked_of, take_effect, goes, entered, released, test_effect, with_peeked, peek_at, case_at, top, broken, asks, leave_needs, premises_of}
+use Rattle.rc_rules.specs.Rules.{same_slot, is_got, op_effect, put_effect, can_take, has_room, locks_of, names_peeked, peeked_of, take_effect, goes, entered, released, test_effect, with_peeked, peek_at, case_at, top, broken, asks, leave_needs, premises_of}
 use Rattle.rc_rules.specs.Premises.{Meets}
 use Rattle.rc_rules.specs.States.{AgreeOnLocks, AreFree, AreHeld, IsSmall}
 use Rattle.rc_rules.proofs.Headers.{few}
-use Rattle.rc_rules.proofs.Weaker.{freed_locks, lock_held, locked_locks, locks_same, peeked_locks, sq_weaker, test_locks, top_locks}
+use Rattle.rc_rules.proofs.Weaker.{freed_locks, got_same, lock_held, locked_locks, locks_same, peeked_locks, peeked_weaker, sq_weaker, test_locks, top_locks}
 use Rattle.rc_rules.proofs.Lines.{effect_by}
 use Rattle.rc_rules.proofs.Room.{limit_few, room}
 use Rattle.std.proofs.lemmas.Bool.{and_parts}
 use Rattle.rc_verify.specs.Branches.{MayTest}
-use Rattle.rc_verify.specs.Walk.{Fits, HasCq, IsClosed}
+use Rattle.rc_verify.specs.Walk.{CanPeek, Fits, IsClosed}
 
 -- ---- the strongest label is like those that lead to it
 
@@ -57,7 +58,7 @@ strongest_fits held n = kept_by (Fits held n) tt (weaker_fits held n)
 weaker_closed : (s t : Label) → Weaker s t → (t ≡ Dead → ⊥) → IsClosed t → IsClosed s
 weaker_closed s Dead w d h = absurd (d refl)
 weaker_closed Dead (Live c k) w d h = tt
-weaker_closed (Live a m) (Live c k) w d h = subst (λ x. same_slot x Closed ≡ true) (sym (sq_weaker m k w.1).slot) h
+weaker_closed (Live a m) (Live c k) w d h = (subst (λ x. same_slot x Closed ≡ true) (sym (sq_weaker m k w.1).slot) h.0, got_same (peeked_of m) (peeked_of k) (peeked_weaker m k w.1) ∙ h.1)
 
 pub strongest_closed : (s : Label) (ts : List Label) → AreAll IsClosed ts → IsStrongest s ts → IsClosed s
 strongest_closed = kept_by IsClosed tt weaker_closed
@@ -148,15 +149,20 @@ pub broken_fits : (releases held left : Locks) (n : ℕ) (s : Label) → left �
 broken_fits releases held left n Dead e f = tt
 broken_fits releases held left n (Live a m) e f = (freed_locks releases (with_peeked Unseen m) ∙ ap (λ l. without_locks l releases) (peeked_locks Unseen m ∙ f.0) ∙ sym e, f.1)
 
--- ---- breaks leave no slot open
+-- ---- breaks leave no slot open, and nothing got
 
 left_closed : (P : Program) (b : Bool) (bag : Part → ℕ) (m : Mode) → Meets (premises_of P [] true bag m (leave_needs b)) → same_slot (unwrap_or (cond b None m.sq) (record { queued = 0; slot = Closed })).slot Closed ≡ true
 left_closed P true bag m h = refl
 left_closed P false bag m h = h.0
 
+none_peeked : (b : Bool) (o : Option Peeked) → is_got (unwrap_or (cond b None (option_map (λ _. Unseen) o)) Unseen) ≡ false
+none_peeked true o = refl
+none_peeked false None = refl
+none_peeked false (Some p) = refl
+
 pub broken_closed : (P : Program) (releases : Locks) (s : Label) → Meets (asks s (λ bag m. line_premises P [] bag m (Break 0 releases false))) → IsClosed (broken releases s)
 broken_closed P releases Dead h = tt
-broken_closed P releases (Live a m) h = left_closed P releases.sq a m h
+broken_closed P releases (Live a m) h = (left_closed P releases.sq a m h, none_peeked releases.cq m.cq)
 
 -- ---- the start
 
@@ -184,11 +190,11 @@ brings_keep Q d may F before f = (gate_keeps Q d (may true) (F (before true)) (f
 pub brings_fit : (may : Bool → Bool) (F : Label → Label) (before : Bool → Label) (held : Locks) (n : ℕ) → ((y : Bool) → Fits held n (F (before y))) → AreAll (Fits held n) (brings may F before)
 brings_fit may F before held n = brings_keep (Fits held n) tt may F before
 
-weaker_cq : (s t : Label) → Weaker s t → (t ≡ Dead → ⊥) → HasCq t → HasCq s
-weaker_cq s Dead w d h = absurd (d refl)
-weaker_cq Dead (Live b n) w d h = tt
-weaker_cq (Live a m) (Live b n) w d h = lock_held WeakerPeeked m.cq n.cq w.1.1 ∙ h
+weaker_peek : (s t : Label) → Weaker s t → (t ≡ Dead → ⊥) → CanPeek t → CanPeek s
+weaker_peek s Dead w d h = absurd (d refl)
+weaker_peek Dead (Live b n) w d h = tt
+weaker_peek (Live a m) (Live b n) w d h = (lock_held WeakerPeeked m.cq n.cq w.1.1 ∙ h.0, got_same (peeked_of m) (peeked_of n) (peeked_weaker m n w.1) ∙ h.1)
 
--- What both sides bring has the lock where they have.
-pub brought_cq : (may : Bool → Bool) (F : Label → Label) (before : Bool → Label) (s : Label) → ((y : Bool) → HasCq (F (before y))) → IsStrongest s (brings may F before) → HasCq s
-brought_cq may F before s f b = kept_by HasCq tt weaker_cq s (brings may F before) (brings_keep HasCq tt may F before f) b
+-- What both sides bring can peek where they can.
+pub brought_peek : (may : Bool → Bool) (F : Label → Label) (before : Bool → Label) (s : Label) → ((y : Bool) → CanPeek (F (before y))) → IsStrongest s (brings may F before) → CanPeek s
+brought_peek may F before s f b = kept_by CanPeek tt weaker_peek s (brings may F before) (brings_keep CanPeek tt may F before f) b

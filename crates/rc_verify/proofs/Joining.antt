@@ -9,7 +9,7 @@ use Rattle.rc_rules.specs.Labels.{Label, Dead, Live, Weaker, IsStrongest}
 use Rattle.rc_rules.specs.Premises.{Premise, Is, Meets, FailsFirst}
 use Rattle.rc_rules.specs.Rules.{agree, agree_all, joins_both}
 use Rattle.rc_rules.specs.States.{asked_alike, State, Becomes, IsOfSame, label_of, program_of, AgreeOnLocks, Gives}
-use Rattle.rc_rules.proofs.Growth.{agree_grows}
+use Rattle.rc_rules.proofs.AgreeGrows.{agree_grows}
 use Rattle.rc_rules.proofs.Weaker.{locks_same, meets_left, meets_right, not_both, weaker_refl}
 use Rattle.rc_verify.specs.declared.arms.Arms.{Arms}
 use Rattle.rc_verify.specs.Arms.{Joins, JoinsOn, two}

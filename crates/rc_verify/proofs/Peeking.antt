@@ -1,6 +1,6 @@
 -- Peeks and their arms.
-use Rattle.std.proofs.Common.{◌≡◌, ℕ, suc, ◌+◌, ◌<◌, Bool, true, false, cond, nat_eq, List, [], ◌∷◌, ◌++◌, drop, take, Option, Some, None, Result, Ok, Err, refl, sym, ap, subst, ◌∙◌, arith, slice_get}
-use Rattle.std.specs.Prelude.{is_some}
+use Rattle.std.proofs.Common.{◌≡◌, ℕ, suc, ◌+◌, ◌<◌, Bool, true, false, cond, not, nat_eq, List, [], ◌∷◌, ◌++◌, drop, take, Option, Some, None, Result, Ok, Err, refl, sym, ap, subst, ◌∙◌, arith, slice_get}
+use Rattle.std.specs.Prelude.{is_some, unwrap_or}
 use Rattle.std.specs.Option.{option_eq}
 use Rattle.std.proofs.lemmas.Bool.{eq-eqb, eqb-true, or_parts}
 use Rattle.rc_lang.specs.declared.lines.Block.{Block}
@@ -20,16 +20,17 @@ use Rattle.rc_rules.specs.declared.mode.Peeked.TheVariants.{Unseen}
 use Rattle.rc_rules.specs.Causes.{premise_number}
 use Rattle.rc_rules.specs.Labels.{Label, Dead, Live, Weaker, IsStrongest}
 use Rattle.rc_rules.specs.Labellings.{arm_end, arm_ends, label_at}
-use Rattle.rc_rules.specs.Premises.{FailsFirst, Meets, Premise}
+use Rattle.rc_rules.specs.Premises.{FailsFirst, Is, Meets, Premise}
 use Rattle.rc_rules.specs.Needs.{line_premises}
-use Rattle.rc_rules.specs.Rules.{agree_all, asks, asks_both, peek_at, with_lock}
+use Rattle.rc_rules.specs.Rules.{agree_all, asks, asks_both, is_got, peek_at, with_lock}
 use Rattle.rc_rules.specs.Sides.{Sides, brings, on, turns, write_to}
-use Rattle.rc_rules.specs.States.{asked_alike, State, Becomes, OnBoth, label_of, sides_of}
+use Rattle.rc_rules.specs.States.{asked_alike, State, Becomes, Gives, OnBoth, label_of, sides_of}
+use Rattle.rc_rules.proofs.Weaker.{meets_append, not_both}
 use Rattle.rc_verify.specs.Arms.{IsOpened, OpensPeek}
 use Rattle.rc_verify.specs.declared.arms.Arms.{Arms}
 use Rattle.rc_verify.specs.declared.walk.Walk.{Walk}
-use Rattle.rc_verify.specs.Walk.{AreKept, Fits, HasCq, IsOf, IsPeeked, IsSaved, PassesLine, Reaches, branch_place, listed, loop_place, most_at, peek_place, places}
-use Rattle.rc_verify.proofs.Fit.{brings_fit, brought_cq, fits_more, strongest_fits}
+use Rattle.rc_verify.specs.Walk.{AreKept, CanPeek, Fits, IsOf, IsPeeked, IsSaved, PassesLine, Reaches, branch_place, listed, loop_place, most_at, peek_place, places}
+use Rattle.rc_verify.proofs.Fit.{brings_fit, brought_peek, fits_more, strongest_fits}
 use Rattle.rc_verify.proofs.Joining.{each_meets}
 use Rattle.rc_verify.proofs.Keeping.{nothing_more, places_pushed}
 use Rattle.rc_verify.proofs.Plainly.{branches_same, fits_behind, loops_same, opens_none}
@@ -61,28 +62,42 @@ no_peeks (b ∷ bs) e = let h = or_parts (is_peek b) (in_peek bs) e in ap (λ os
 -- ---- labels
 
 -- what a side is asked
+abbrev lock_asks : Option Peeked → List (ℕ × Premise)
+lock_asks o = with_lock 1 o (λ p. (20, Is (not (is_got p))) ∷ [])
+
 abbrev side_asks : Label → List (ℕ × Premise)
-side_asks s = asks s (λ bag m. with_lock 1 m.cq (λ p. []))
+side_asks s = asks s (λ bag m. lock_asks m.cq)
 
-met_cq : (s : Label) → Meets (side_asks s) → HasCq s
-met_cq Dead h = tt
-met_cq (Live b m) h = held m.cq h
+met_peek : (s : Label) → Meets (side_asks s) → CanPeek s
+met_peek Dead h = tt
+met_peek (Live b m) h = held m.cq h
   where
-    held : (o : Option Peeked) → Meets (with_lock 1 o (λ p. [])) → is_some o ≡ true
-    held None h = h.0
-    held (Some p) h = refl
+    none : (g : Bool) → not g ≡ true → g ≡ false
+    none true e = absurd (cc)
+    none false e = refl
 
-cq_asks : (s : Label) → HasCq s → side_asks s ≡ []
-cq_asks Dead h = refl
-cq_asks (Live b m) h = none m.cq h
+    held : (o : Option Peeked) → Meets (lock_asks o) → (is_some o ≡ true) × (is_got (unwrap_or o Unseen) ≡ false)
+    held None h = (h.0, refl)
+    held (Some p) h = (refl, none (is_got p) h.0)
+
+peek_met : (s : Label) → CanPeek s → Meets (side_asks s)
+peek_met Dead h = tt
+peek_met (Live b m) h = met m.cq h.0 h.1
   where
-    none : (o : Option Peeked) → is_some o ≡ true → with_lock 1 o (λ p. []) ≡ []
-    none None h = absurd (cc)
-    none (Some p) h = refl
+    met : (o : Option Peeked) → is_some o ≡ true → is_got (unwrap_or o Unseen) ≡ false → Meets (lock_asks o)
+    met None h g = absurd (cc)
+    met (Some p) h g = (ap not g, tt)
 
--- Nothing is asked where both sides have the lock.
-pub none_asked : (s : Bool → Label) → ((z : Bool) → HasCq (s z)) → side_asks (s true) ++ side_asks (s false) ≡ []
-none_asked s h = ap (λ ps. ps ++ side_asks (s false)) (cq_asks (s true) (h true)) ∙ cq_asks (s false) (h false)
+-- Both sides that can peek meet what they are asked, so a rule that asks it asks nothing.
+pub none_asked : {X : Type 0} (old new : State) (x : Result X Cause) (bs : Bool → List Label) → OnBoth CanPeek old → Gives old new x (asked_alike old [] (Peek 0)) bs → Gives old new x [] bs
+none_asked old new x bs h = go x
+  where
+    m : Meets (asked_alike old [] (Peek 0))
+    m = meets_append (side_asks (label_of old true)) (side_asks (label_of old false)) (peek_met (label_of old true) (h true)) (peek_met (label_of old false) (h false))
+
+    go : {X : Type 0} (x : Result X Cause) → Gives old new x (asked_alike old [] (Peek 0)) bs → Gives old new x [] bs
+    go (Ok y) g = (tt, g.1)
+    go (Err c) g = absurd (not_both (premise_number c) (asked_alike old [] (Peek 0)) m g.0)
 
 pub dead_strongest : (s : Label) → s ≡ Dead → IsStrongest s []
 dead_strongest s e = record { weaker = tt; strongest = λ t w. subst (λ z. Weaker t z) (sym e) tt }
@@ -116,13 +131,13 @@ module _ (P : Program) (t : Thread) (j : ℕ) (w : Walk) (r : Reaches P t j w) w
           let lt : j < k = c.before in
           omega (arith, lt, h.1)
 
-  opened : (x : ℕ) (new : State) (a : Arms) → stmt_at t.lines j ≡ Some (Peek x) → IsOf P t new → OnBoth HasCq new → IsOpened new a → IsPeeked P t (j + 1) (r.labels ++ sides_of new ∷ []) j a
+  opened : (x : ℕ) (new : State) (a : Arms) → stmt_at t.lines j ≡ Some (Peek x) → IsOf P t new → OnBoth CanPeek new → IsOpened new a → IsPeeked P t (j + 1) (r.labels ++ sides_of new ∷ []) j a
   opened x new a e p l h =
       let labels = r.labels ++ sides_of new ∷ [] in
       let none : (z : Bool) → arm_ends (take (j + 1) t.lines) labels j z ≡ [] = λ z. none_so_far x (sides_of new) z e in
       record {
         before = subst (λ (s : State). IsSaved P t labels (j + 1) s) (sym h.before) (record { of = p; at = ap (λ i. slice_get labels i) (sym r.at.size) ∙ get_new r.labels (sides_of new) [] });
-        locked = subst (λ (s : State). OnBoth HasCq s) (sym h.before) l;
+        may = subst (λ (s : State). OnBoth CanPeek s) (sym h.before) l;
         of = of_same P t a.ends new p h.of;
         agree = ap (λ xs. agree_all (xs ++ arm_ends (take (j + 1) t.lines) labels j false)) (none true) ∙ ap agree_all (none false) ∙ sym h.agree;
         ends = λ q. record {
@@ -149,7 +164,7 @@ module _ (P : Program) (t : Thread) (j : ℕ) (w : Walk) (r : Reaches P t j w) w
       let f : (z : Bool) → Fits (locks_in bs) (most_at j + 18) (label_of w.state z) = λ z. fits_more (locks_in bs) (most_at j) (most_at j + 18) (label_of w.state z) (omega arith) (fits_here P t j w r (Peek v) e z) in
       let f' : (z : Bool) → Fits (locks_in bs) (most_at j + 18) (label_of new z) = λ z. strongest_fits (locks_in bs) (most_at j + 18) (label_of new z) _ (brings_fit (may z) (λ s. s) (label_of w.state) (locks_in bs) (most_at j + 18) f) (g.1.each z) in
       let m = each_meets (label_of w.state) side_asks g.0 in
-      let l : OnBoth HasCq new = λ z. brought_cq (may z) (λ s. s) (label_of w.state) (label_of new z) (λ y. met_cq (label_of w.state y) (m y)) (g.1.each z) in
+      let l : OnBoth CanPeek new = λ z. brought_peek (may z) (λ s. s) (label_of w.state) (label_of new z) (λ y. met_peek (label_of w.state y) (m y)) (g.1.each z) in
       let p : places peek_place (blocks_at t.lines (j + 1)) ≡ j ∷ [] = ap (places peek_place) n ∙ places_pushed peek_place bs (InPeek j) ∙ ap (λ os. os ++ j ∷ []) (no_peeks bs (nested_here t.lines r.thread.nested.each j (Peek v) e)) in
       let one : AreKept (IsPeeked P t (j + 1) (r.labels ++ sides_of new ∷ [])) (j ∷ []) (g.2.0 ∷ []) = (opened v new g.2.0 e gave.2 l g.2.2, tt) in
       onward P t j w r (Peek v) e w' gave.0 gave.1 gave.2

@@ -97,7 +97,7 @@ module _ (P : Program) (t : Thread) (j : ℕ) (labels : List Sides) (new : Sides
   peeked_on : (o : ℕ) (a : Arms) → ((z : Bool) → arm_ends (take (j + 1) t.lines) (labels ++ new ∷ []) o z ≡ arm_ends (take j t.lines) labels o z) → IsPeeked P t j labels o a → IsPeeked P t (j + 1) (labels ++ new ∷ []) o a
   peeked_on o a e h = record {
     before = saved_on P t labels new (o + 1) a.before h.before;
-    locked = h.locked;
+    may = h.may;
     of = h.of;
     agree = ap (λ xs. agree_all (xs ++ arm_ends (take (j + 1) t.lines) (labels ++ new ∷ []) o false)) (e true) ∙ ap (λ ys. agree_all (arm_ends (take j t.lines) labels o true ++ ys)) (e false) ∙ h.agree;
     ends = λ q. meet_on P t (locks_in (blocks_at t.lines o)) (most_at j) (most_at (j + 1)) (arm_ends (take j t.lines) labels o) (arm_ends (take (j + 1) t.lines) (labels ++ new ∷ []) o) a.ends (omega arith) e (h.ends q);

@@ -1,6 +1,6 @@
 -- The arms of a peek, as they are opened and ended.
 use Rattle.std.specs.Prelude.{ℕ, ◌≡◌, List, Bool, true, false, [], ◌∷◌, Option, Some, Result, Ok, Err}
-use Rattle.rc_lang.specs.declared.lines.Stmt.TheVariants.{Peek}
+use Rattle.rc_lang.specs.declared.lines.Stmt.TheVariants.{EndArm, Peek}
 use Rattle.rc_rules.specs.declared.cause.Cause.{Cause}
 use Rattle.rc_rules.specs.declared.flag.Write.TheVariants.{Anything}
 use Rattle.rc_rules.specs.declared.mode.Peeked.TheVariants.{Unseen}
@@ -53,7 +53,7 @@ arm_end s z = peek_at Unseen (label_of s z)
 abbrev pub MayEnd : Arms → (Bool → Label) → Type 0
 MayEnd a end = a.agree ≡ true → AreAlike a.ends end
 
--- The state and this end meet, or their slots aren't at one stage.
+-- The state and this end meet, or they don't agree on the slot or on what is got.
 abbrev pub GivesMeet : {X : Type 0} → State → State → (Bool → Label) → Result X Cause → Type 0
 GivesMeet old new end result = Gives old new result (joins_both (two (label_of old) end)) (two (label_of old) end)
 
@@ -69,6 +69,10 @@ JoinsOn old new end agrees false = agrees ≡ false
 
 abbrev pub JoinsEnd : Arms → Arms → (Bool → Label) → Type 0
 JoinsEnd old new end = JoinsOn old.ends new.ends end new.agree old.agree
+
+-- The premises of an arm's end hold, and nothing goes on to the line after it.
+abbrev pub LeavesArm : {X : Type 0} → State → State → Result X Cause → Type 0
+LeavesArm old new result = Gives old new result (asked_alike old [] (EndArm 0)) (λ z. [])
 
 -- An arm has ended in a state; after it nothing is peeked.
 pub record EndsArm (old new : Arms) (s : State) : Type 0 where

@@ -14,7 +14,7 @@ use Rattle.rc_rules.specs.Causes.{premise_number}
 use Rattle.rc_rules.specs.Labels.{Label, Dead, Live, IsStrongest}
 use Rattle.rc_rules.specs.Labellings.{arm_ends, break_ends, skipped, IsRefusedAt}
 use Rattle.rc_rules.specs.Sides.{Sides, on}
-use Rattle.rc_rules.specs.Rules.{same_slot, agree_all, locks_of, sq_of}
+use Rattle.rc_rules.specs.Rules.{same_slot, agree_all, is_got, locks_of, peeked_of, sq_of}
 use Rattle.rc_rules.specs.States.{State, label_of, program_of, sides_of}
 use Rattle.rc_verify.specs.declared.walk.Walk.{Walk}
 use Rattle.rc_verify.specs.declared.arms.Arms.{Arms}
@@ -32,15 +32,15 @@ Fits locks n (Live bag m) = (locks_of m ≡ locks) × ((p : Part) → bag p ≤ 
 abbrev pub most_at : ℕ → ℕ
 most_at j = 4096 + 18 * j
 
--- Where it is live, no slot is open.
+-- Where it is live, no slot is open, and nothing is got.
 abbrev pub IsClosed : Label → Type 0
 IsClosed Dead = Unit {0}
-IsClosed (Live bag m) = same_slot (sq_of m).slot Closed ≡ true
+IsClosed (Live bag m) = (same_slot (sq_of m).slot Closed ≡ true) × (is_got (peeked_of m) ≡ false)
 
--- Where it is live, the lock of the completion side is held.
-abbrev pub HasCq : Label → Type 0
-HasCq Dead = Unit {0}
-HasCq (Live bag m) = is_some m.cq ≡ true
+-- Where it is live, the lock of the completion side is held, and nothing is got.
+abbrev pub CanPeek : Label → Type 0
+CanPeek Dead = Unit {0}
+CanPeek (Live bag m) = (is_some m.cq ≡ true) × (is_got (peeked_of m) ≡ false)
 
 -- ---- what is kept of the blocks that are open
 
@@ -99,10 +99,10 @@ pub record IsMeet (P : Program) (t : Thread) (locks : Locks) (n : ℕ) (ends : B
   pub strongest : (z : Bool) → IsStrongest (label_of s z) (ends z)
   pub fits : (z : Bool) → Fits locks n (label_of s z)
 
--- Of the peek at o the state before its arms is kept, whether the arms so far agree on the slot, and then their meet.
+-- Of the peek at o the state before its arms is kept, whether the arms so far agree, and then their meet.
 pub record IsPeeked (P : Program) (t : Thread) (j : ℕ) (labels : List Sides) (o : ℕ) (a : Arms) : Type 0 where
   pub before : IsSaved P t labels (o + 1) a.before
-  pub locked : (z : Bool) → HasCq (label_of a.before z)
+  pub may : (z : Bool) → CanPeek (label_of a.before z)
   pub of : IsOf P t a.ends
   pub agree : agree_all (arm_ends (take j t.lines) labels o true ++ arm_ends (take j t.lines) labels o false) ≡ a.agree
   pub ends : a.agree ≡ true → IsMeet P t (locks_in (blocks_at t.lines o)) (most_at j) (arm_ends (take j t.lines) labels o) a.ends

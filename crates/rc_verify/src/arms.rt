@@ -1,8 +1,7 @@
 //! The arms of the peek that is open.
 
-ghost use Rattle.std.specs.Prelude.{◌≡◌, ◌∷◌, [], Bool, true, false, IsSome, IfSome, None, OnErr, Some};
+ghost use Rattle.std.specs.Prelude.{◌≡◌, ◌∷◌, [], Bool, true, false, IsSome, IfSome, None, OnErr, OnOk, Some};
 ghost use Rattle.rc_lang.specs.Program.{DeclaresToken};
-ghost use Rattle.rc_rules.specs.Labels.{Dead};
 ghost use Rattle.rc_rules.specs.Rules as rules;
 ghost use Rattle.rc_rules.specs.Sides as sides;
 ghost use Rattle.rc_rules.specs.States as states;
@@ -22,7 +21,7 @@ pub struct Arms<'a> {
     pub before: State<'a>,
     /// What is known where the ends so far join, as long as they agree.
     pub ends: State<'a>,
-    /// Whether the ends so far have the slot at one stage.
+    /// Whether the ends so far have the slot at one stage, and what is peeked got alike.
     pub agree: bool,
 }
 
@@ -142,28 +141,28 @@ fn join_end<'a>(arms: &mut Arms<'a>, end: &State<'a>)
 }
 
 /// The closing brace of an arm: nothing comes from above after it.
-fn end_arm<'a>(state: &mut State<'a>, arms: &mut Arms<'a>)
+fn end_arm<'a>(state: &mut State<'a>, arms: &mut Arms<'a>) -> Result<(), Cause>
     requires of { states.IsOfSame state.old arms.old.ends }
     requires alike { spec.MayEnd arms.old (spec.arm_end state.old) }
-    ensures dead { states.OnBoth (λ s. s ≡ Dead) state.new }
-    ensures same { states.IsOfSame state.new state.old }
-    ensures ends { spec.EndsArm arms.old arms.new state.old }
+    ensures gives { spec.LeavesArm state.old state.new result }
+    ensures ends { OnOk result (spec.EndsArm arms.old arms.new state.old) }
 {
+    state.may_end_arm()?;
     state.forget_peeked();
     join_end(arms, state);
     state.die();
+    Ok(())
 }
 
 /// The closing brace of an arm, of the peek that is open. There is one.
-pub fn end_arms<'a>(state: &mut State<'a>, peek: &mut Peek<'a>)
+pub fn end_arms<'a>(state: &mut State<'a>, peek: &mut Peek<'a>) -> Result<(), Cause>
     requires kept { IsSome peek.old }
     requires of { IfSome peek.old (λ a. states.IsOfSame state.old a.ends) }
     requires alike { IfSome peek.old (λ a. spec.MayEnd a (spec.arm_end state.old)) }
-    ensures dead { states.OnBoth (λ s. s ≡ Dead) state.new }
-    ensures same { states.IsOfSame state.new state.old }
-    ensures ends { (a : parts.Arms) → peek.old ≡ Some a → spec.EndsArmIn a peek.new state.old }
+    ensures gives { spec.LeavesArm state.old state.new result }
+    ensures ends { OnOk result ((a : parts.Arms) → peek.old ≡ Some a → spec.EndsArmIn a peek.new state.old) }
 {
-    end_arm(state, &mut peek.arms);
+    end_arm(state, &mut peek.arms)
 }
 
 /// The closing brace of a peek. There is one open.

@@ -81,10 +81,7 @@ pub fn pass<'a>(walk: &mut Walk<'a>, thread: &Thread, place: usize, stmt: Stmt) 
         Stmt::Case(_, user_data) => enter_case(&mut walk.state, arms_of(&walk.peek), user_data),
         Stmt::Other(_) => enter_other(&mut walk.state, arms_of(&walk.peek)),
         Stmt::Nothing(_) => enter_none(&mut walk.state, arms_of(&walk.peek)),
-        Stmt::EndArm(_) => {
-            end_arms(&mut walk.state, &mut walk.peek);
-            Ok(())
-        }
+        Stmt::EndArm(_) => end_arms(&mut walk.state, &mut walk.peek),
         Stmt::EndPeek(_) => close_peek(&mut walk.state, &mut walk.peek),
         Stmt::Loop(k) => open_loop(&mut walk.state, &mut walk.loops, &thread.lists[k]),
         Stmt::EndLoop(_, k) => close_loop(&mut walk.state, &mut walk.loops, &thread.lists[k]),

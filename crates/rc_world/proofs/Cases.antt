@@ -1,8 +1,8 @@
--- What a statement does in the rings and the buffers, case by case: nothing, or one of six changes.
+-- What a statement does in the rings and the buffers, case by case: nothing, or one of seven changes.
 use Rattle.std.proofs.Common.{◌≡◌, ℕ, ℤ, pos, ◌+◌, ◌<◌, Bool, true, false, if◌then◌else◌, List, [], ◌∷◌, ◌++◌, length, Option, Some, None, nat_lt, slice_set, refl}
 use Rattle.std.proofs.lemmas.Bool.{ltb-true}
 use Rattle.std.proofs.lemmas.List.{length-replicate, length-set}
-use Rattle.rc_lang.specs.declared.lines.Op.TheVariants.{Store, Fill, GetSqe, PrepRead, PrepWrite, PrepFsync, PrepNop, PrepOther, SetData64, Submit, SubmitAndWait, CqeSeen}
+use Rattle.rc_lang.specs.declared.lines.Op.TheVariants.{Store, Fill, GetSqe, PrepRead, PrepWrite, PrepFsync, PrepNop, PrepOther, SetData64, Submit, SubmitAndWait, CqeGetData64, CqeSeen}
 use Rattle.rc_lang.specs.declared.lines.Stmt.{Stmt}
 use Rattle.rc_lang.specs.declared.lines.Stmt.TheVariants.{Do}
 use Rattle.rc_lang.specs.declared.request.Kind.TheVariants.{Fsync, Read, Write}
@@ -11,7 +11,7 @@ use Rattle.rc_world.specs.declared.event.Completion.{Completion}
 use Rattle.rc_world.specs.declared.world.Slot.{Slot}
 use Rattle.rc_world.specs.declared.world.Slot.TheVariants.{Closed, Vacant, Prepared}
 use Rattle.rc_world.specs.Controls.{Standing, low_byte, variable}
-use Rattle.rc_world.specs.Machine.{World, bytes_of, count_in, fills, fits_buffer, hands_over, in_rings, is_take, new_request, opens_entry, prepared_nop, prepared_other, prepares, queues, reaps_front, stores, submits_by, with_bytes, without_data}
+use Rattle.rc_world.specs.Machine.{World, bytes_of, count_in, fills, fits_buffer, gets_front, hands_over, in_rings, is_take, new_request, opens_entry, prepared_nop, prepared_other, prepares, queues, reaps_front, stores, submits_by, with_bytes, without_front}
 
 -- It holds of the world after a step, where that can be made.
 abbrev pub OnSome : (World → Type 0) → Option World → Type 0
@@ -39,7 +39,8 @@ pub record HoldsBehind (F : World → Type 0) (w : World) (s : Stmt) : Type 0 wh
   pub prepares : (r : Request) → prepared_by s ≡ Some r → w.slot ≡ Vacant → fits_buffer w.program r ≡ true → F (record w { slot = Prepared r })
   pub queues : (u : ℕ) (r : Request) → s ≡ Do (SetData64 u) → w.slot ≡ Prepared r → F (record w { slot = Closed; queued = w.queued ++ record r { serial = w.made + 1; user_data = u } ∷ []; made = w.made + 1 })
   pub submits : (n : ℕ) → F (hands_over w n)
-  pub reaps : (c : Completion) (cs : List Completion) → w.completions ≡ c ∷ cs → F (record w { completions = cs; completed = without_data c.user_data w.completed })
+  pub gets : (c : Completion) (cs : List Completion) → w.completions ≡ c ∷ cs → F (record w { completed = without_front w.controls.look c.user_data w.completed })
+  pub reaps : (c : Completion) (cs : List Completion) → w.completions ≡ c ∷ cs → F (record w { completions = cs; completed = without_front w.controls.look c.user_data w.completed })
 
 -- ---- one change
 
@@ -73,7 +74,11 @@ module _ (F : World → Type 0) (w : World) where
   pub on_submitted : (r : ℤ) → (is_take w r ≡ true → F (hands_over w (count_in r))) → OnSome F (submits_by w r)
   on_submitted r h = on_if F _ (is_take w r) h
 
-  pub on_reaped : (cs : List Completion) → ((c : Completion) (ds : List Completion) → cs ≡ c ∷ ds → F (record w { completions = ds; completed = without_data c.user_data w.completed })) → OnSome F (reaps_front w cs)
+  pub on_got : (cs : List Completion) → ((c : Completion) (ds : List Completion) → cs ≡ c ∷ ds → F (record w { completed = without_front w.controls.look c.user_data w.completed })) → OnSome F (gets_front w cs)
+  on_got [] h = tt
+  on_got (c ∷ ds) h = h c ds refl
+
+  pub on_reaped : (cs : List Completion) → ((c : Completion) (ds : List Completion) → cs ≡ c ∷ ds → F (record w { completions = ds; completed = without_front w.controls.look c.user_data w.completed })) → OnSome F (reaps_front w cs)
   on_reaped [] h = tt
   on_reaped (c ∷ ds) h = h c ds refl
 
@@ -91,5 +96,6 @@ in_rings_by F w t r (Do PrepOther) h = on_prepared F w _ w.slot (h.prepares _ re
 in_rings_by F w t r (Do (SetData64 u)) h = on_queued F w u w.slot (λ q e. h.queues u q refl e)
 in_rings_by F w t r (Do (Submit x)) h = on_submitted F w r (λ y. h.submits (count_in r))
 in_rings_by F w t r (Do (SubmitAndWait x n)) h = on_submitted F w r (λ y. h.submits (count_in r))
+in_rings_by F w t r (Do CqeGetData64) h = on_got F w w.completions h.gets
 in_rings_by F w t r (Do CqeSeen) h = on_reaped F w w.completions h.reaps
 in_rings_by F w t r _ h = h.nothing

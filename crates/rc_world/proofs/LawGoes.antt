@@ -5,7 +5,7 @@ use Rattle.std.proofs.lemmas.Bool.{le-leb, and_parts, and_from, false_from_ne_tr
 use Rattle.rc_lang.specs.declared.lines.Line.{Line}
 use Rattle.rc_lang.specs.declared.lines.Locks.{Locks}
 use Rattle.rc_lang.specs.declared.lines.Op.{Op}
-use Rattle.rc_lang.specs.declared.lines.Op.TheVariants.{Load, Store, Fill, GetSqe, PrepRead, PrepWrite, PrepFsync, PrepNop, PrepOther, SetData64, Submit, SubmitAndWait, CqeSeen}
+use Rattle.rc_lang.specs.declared.lines.Op.TheVariants.{Load, Store, Fill, GetSqe, PrepRead, PrepWrite, PrepFsync, PrepNop, PrepOther, SetData64, Submit, SubmitAndWait, CqeGetData64, CqeSeen}
 use Rattle.rc_lang.specs.declared.lines.Stmt.{Stmt}
 use Rattle.rc_lang.specs.declared.lines.Stmt.TheVariants.{Do, Put, Lock, EndLock, If, Peek, Loop, EndLoop, Break}
 use Rattle.rc_lang.specs.declared.lines.Test.{Test}
@@ -17,6 +17,8 @@ use Rattle.rc_lang.specs.Requests.{may_complete}
 use Rattle.rc_lang.proofs.Rests.{may_rest}
 use Rattle.rc_split.specs.Pools.{all_pooled, overfills, put_into}
 use Rattle.rc_world.specs.declared.controls.Answer.TheVariants.{Plain, Byte}
+use Rattle.rc_world.specs.declared.controls.Look.{Look}
+use Rattle.rc_world.specs.declared.controls.Look.TheVariants.{Unseen, Peeked, Got}
 use Rattle.rc_world.specs.declared.event.Completion.{Completion}
 use Rattle.rc_world.specs.declared.event.Action.TheVariants.{ItemsPut}
 use Rattle.rc_world.specs.declared.event.Event.{Event}
@@ -25,12 +27,12 @@ use Rattle.rc_world.specs.declared.fault.FaultKind.{FaultKind}
 use Rattle.rc_world.specs.declared.fault.FaultKind.TheVariants.{WriteOfPending, ReadOfFilling, RingFull, UnknownReap, NoLock, RawEntry, OutOfBuffer, DoublePut}
 use Rattle.rc_world.specs.declared.world.Slot.{Slot}
 use Rattle.rc_world.specs.declared.world.Slot.TheVariants.{Closed, Vacant, Prepared}
-use Rattle.rc_world.specs.Controls.{Move, Standing, acts, are_free, as_event, branches, goes_on, loads, low_byte, made, moved, number_of_event, peeks, reaps, takes_locks, variable}
-use Rattle.rc_world.specs.Faults.{clashes, fault_of, front_is_one, has_buffer, has_cq, has_fault, has_sq, is_closed, is_cq_call, is_filling, is_named, is_prepared, is_sq_call, is_vacant, may_put, names, reads_into}
+use Rattle.rc_world.specs.Controls.{Move, Standing, acts, are_free, as_event, branches, gets_data, goes_on, loads, low_byte, made, moved, number_of_event, peeks, reaps, takes_locks, variable}
+use Rattle.rc_world.specs.Faults.{clashes, fault_of, front_is_known, has_buffer, has_cq, has_fault, has_sq, is_closed, is_cq_call, is_filling, is_named, is_prepared, is_sq_call, is_vacant, may_put, names, reads_into}
 use Rattle.rc_world.specs.Harm.{IsHarmless}
 use Rattle.rc_world.specs.Laws.{CompletesFreely, GoesOn, NoHiddenHarm, IsAtEnd}
 use Rattle.rc_world.specs.Kept.{IsKept, IsMemory}
-use Rattle.rc_world.specs.Machine.{Pending, World, byte_of, bytes_brought, completes, completion_of, count_in, fills, fits_buffer, front_of, given_back, hands_over, in_rings, is_read, is_take, kernel_event, kernel_step_of, may_be_given, new_request, opens_entry, prepared_nop, prepared_other, prepares, queues, reaps_front, slot_len, start_world, stmt_answer, stores, thread_step, with_bytes, with_controls}
+use Rattle.rc_world.specs.Machine.{Pending, World, byte_of, bytes_brought, completes, completion_of, count_in, fills, fits_buffer, front_of, gets_front, given_back, hands_over, in_rings, is_read, is_take, kernel_event, kernel_step_of, may_be_given, new_request, opens_entry, prepared_nop, prepared_other, prepares, queues, reaps_front, slot_len, start_world, stmt_answer, stores, thread_step, with_bytes, with_controls}
 use Rattle.rc_world.proofs.Laid.{resolved_in}
 use Rattle.rc_world.proofs.LawFaultless.{calm_in, harmless_in}
 use Rattle.rc_world.proofs.LawLists.{get_at, get_past}
@@ -90,10 +92,12 @@ queues_prepared w u Closed a = absurd (cc)
 queues_prepared w u Vacant a = absurd (cc)
 queues_prepared w u (Prepared r) a = (record w { slot = Closed; queued = w.queued ++ record r { serial = w.made + 1; user_data = u } ∷ []; made = w.made + 1 }, refl)
 
-has_front : (w : World) (peeked : Bool) (cs : List Completion) → not (peeked && front_is_one w cs) ≡ false → (c : Completion) × (rest : List Completion) × (cs ≡ c ∷ rest)
-has_front w false cs e = absurd (cc)
-has_front w true [] e = absurd (cc)
-has_front w true (c ∷ cs) e = (c, cs, refl)
+has_front : (w : World) (look : Look) (cs : List Completion) → not (front_is_known w look cs) ≡ false → (c : Completion) × (rest : List Completion) × (cs ≡ c ∷ rest)
+has_front w Unseen cs e = absurd (cc)
+has_front w Peeked [] e = absurd (cc)
+has_front w Peeked (c ∷ cs) e = (c, cs, refl)
+has_front w Got [] e = absurd (cc)
+has_front w Got (c ∷ cs) e = (c, cs, refl)
 
 -- ---- the next line of a thread
 
@@ -176,8 +180,11 @@ module _ (w : World) (i : ℕ) (t : Standing) (r : ℤ) where
         record { rings = v.0; move = _; in_the_rings = v.1; acted = refl }
     can_do n (Submit x) a f u = record { rings = hands_over w (count_in r); move = _; in_the_rings = can_submit r u; acted = refl }
     can_do n (SubmitAndWait x k) a f u = record { rings = hands_over w (count_in r); move = _; in_the_rings = can_submit r u; acted = refl }
+    can_do n CqeGetData64 a f u =
+        let c = has_front w w.controls.look w.completions (and_false (has_cq w i) _ (f UnknownReap) (holds_cq (Do CqeGetData64) refl f)) in
+        record { rings = _; move = _; in_the_rings = ap (gets_front w) c.2; acted = ap (λ cs. gets_data w.controls t (front_of cs)) c.2 }
     can_do n CqeSeen a f u =
-        let c = has_front w w.controls.peeked w.completions (and_false (has_cq w i) _ (f UnknownReap) (holds_cq (Do CqeSeen) refl f)) in
+        let c = has_front w w.controls.look w.completions (and_false (has_cq w i) _ (f UnknownReap) (holds_cq (Do CqeSeen) refl f)) in
         record { rings = _; move = _; in_the_rings = ap (reaps_front w) c.2; acted = ap (λ cs. reaps w.controls t (front_of cs)) c.2 }
     can_do n _ a f u = record { rings = w; move = _; in_the_rings = refl; acted = refl }
 

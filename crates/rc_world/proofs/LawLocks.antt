@@ -10,7 +10,7 @@ use Rattle.rc_lang.specs.Comparisons.{compares}
 use Rattle.rc_lang.specs.declared.lines.Block.TheVariants.{InIf, InElse, InPeek, InArm}
 use Rattle.rc_lang.specs.declared.lines.Locks.{Locks}
 use Rattle.rc_lang.specs.declared.lines.Op.{Op}
-use Rattle.rc_lang.specs.declared.lines.Op.TheVariants.{Set, Assign, Add, Subtract, Load, Store, Fill, Print, GetSqe, PrepRead, PrepWrite, PrepFsync, PrepNop, PrepOther, SetData64, Submit, SubmitAndWait, CqeSeen}
+use Rattle.rc_lang.specs.declared.lines.Op.TheVariants.{Set, Assign, Add, Subtract, Load, Store, Fill, Print, GetSqe, PrepRead, PrepWrite, PrepFsync, PrepNop, PrepOther, SetData64, Submit, SubmitAndWait, CqeGetData64, CqeSeen}
 use Rattle.rc_lang.specs.declared.lines.Stmt.{Stmt}
 use Rattle.rc_lang.specs.declared.lines.Stmt.TheVariants.{Do, Put, Lock, EndLock, If, Else, EndIf, Peek, Case, Other, Nothing, EndArm, Loop, EndLoop, Break}
 use Rattle.rc_lang.specs.declared.lines.Test.{Test}
@@ -30,7 +30,7 @@ use Rattle.rc_world.specs.declared.controls.Answer.TheVariants.{Plain, Number, B
 use Rattle.rc_world.specs.declared.controls.Holders.{Holders}
 use Rattle.rc_world.specs.declared.event.Action.TheVariants.{VariableSet, Stored, Filled, Printed, EntryOpened, ReadPrepared, WritePrepared, FsyncPrepared, NopPrepared, OtherPrepared, DataSet, Looped, ItemsPut}
 use Rattle.rc_world.specs.declared.event.Event.{Event}
-use Rattle.rc_world.specs.Controls.{Controls, Move, Standing, acts, are_free, arm_for, arms_of, assigns, branches, breaks, decides, does, first_place, goes_on, held_by, hop_of, is_case, is_choice, is_free, is_none_arm, is_other, loads, low_byte, none_arm, operand_value, or_from, peeks, plainly, puts_items, reaps, releases_locks, rest_at, returns_to, sets_variable, settled, submits, takes_locks, tries_to_take, variable, wrapped}
+use Rattle.rc_world.specs.Controls.{Controls, Move, Standing, acts, are_free, arm_for, arms_of, assigns, branches, breaks, decides, does, first_place, gets_data, goes_on, held_by, hop_of, is_case, is_choice, is_free, is_none_arm, is_other, loads, low_byte, none_arm, operand_value, or_from, peeks, plainly, puts_items, reaps, releases_locks, rest_at, returns_to, sets_variable, settled, submits, takes_locks, tries_to_take, variable, wrapped}
 use Rattle.rc_world.specs.Faults.{is_holder}
 use Rattle.rc_world.specs.Machine.{World, start_world, stmt_answer}
 use Rattle.rc_world.specs.Runs.{IsRun, IsStep}
@@ -217,6 +217,10 @@ module _ (P : Program) (is : IsProgram P) (i : ℕ) where
     submit_keeps x (Number v) e = keeps_by _ (same_move _ e)
     submit_keeps x _ e = absurd (cc)
 
+    get_keeps : (b : Answer) → gets_data c t b ≡ Some m → m.holders ≡ c.holders
+    get_keeps (Front v) e = keeps_by _ (same_move _ e)
+    get_keeps _ e = absurd (cc)
+
     reap_keeps : (b : Answer) → reaps c t b ≡ Some m → m.holders ≡ c.holders
     reap_keeps (Front v) e = keeps_by _ (same_move _ e)
     reap_keeps _ e = absurd (cc)
@@ -242,6 +246,7 @@ module _ (P : Program) (is : IsProgram P) (i : ℕ) where
     op_keeps (SetData64 u) e = keeps_by _ (plain_move (goes_on c t (DataSet u)) a e)
     op_keeps (Submit x) e = submit_keeps x a e
     op_keeps (SubmitAndWait x n) e = submit_keeps x a e
+    op_keeps CqeGetData64 e = get_keeps a e
     op_keeps CqeSeen e = reap_keeps a e
 
     room_keeps : (full : Bool) (n : Move) → (if full then None else plainly n a) ≡ Some m → m.holders ≡ n.holders

@@ -10,7 +10,7 @@ use Rattle.rc_lang.specs.Comparisons.{compares}
 use Rattle.rc_lang.specs.declared.lines.Line.{Line}
 use Rattle.rc_lang.specs.declared.lines.Locks.{Locks}
 use Rattle.rc_lang.specs.declared.lines.Op.{Op}
-use Rattle.rc_lang.specs.declared.lines.Op.TheVariants.{Set, Assign, Add, Subtract, Load, Store, Fill, Print, GetSqe, PrepRead, PrepWrite, PrepFsync, PrepNop, PrepOther, SetData64, Submit, SubmitAndWait, CqeSeen}
+use Rattle.rc_lang.specs.declared.lines.Op.TheVariants.{Set, Assign, Add, Subtract, Load, Store, Fill, Print, GetSqe, PrepRead, PrepWrite, PrepFsync, PrepNop, PrepOther, SetData64, Submit, SubmitAndWait, CqeGetData64, CqeSeen}
 use Rattle.rc_lang.specs.declared.lines.Stmt.{Stmt}
 use Rattle.rc_lang.specs.declared.lines.Stmt.TheVariants.{Do, Put, Lock, EndLock, If, Else, EndIf, Peek, Case, Other, Nothing, EndArm, Loop, EndLoop, Break}
 use Rattle.rc_lang.specs.declared.lines.Test.{Test}
@@ -24,7 +24,7 @@ use Rattle.rc_split.specs.Pools.{Pools, all_pooled, includes, overfills, pool_of
 use Rattle.rc_world.specs.declared.controls.Answer.{Answer}
 use Rattle.rc_world.specs.declared.controls.Answer.TheVariants.{Plain, Number, Byte, Front}
 use Rattle.rc_world.specs.declared.event.Action.TheVariants.{VariableSet, Stored, Filled, Printed, EntryOpened, ReadPrepared, WritePrepared, FsyncPrepared, NopPrepared, OtherPrepared, DataSet, Looped, ItemsPut}
-use Rattle.rc_world.specs.Controls.{Controls, Move, Standing, acts, are_free, arm_for, arms_of, assigns, branches, breaks, decides, does, first_place, goes_on, hop_of, is_case, is_choice, is_none_arm, is_other, loads, locks, low_byte, none_arm, operand_value, or_from, peeks, plainly, puts_items, reaps, releases_locks, rest_at, returns_to, sets_variable, settled, submits, takes_locks, tries_to_take, variable, wrapped}
+use Rattle.rc_world.specs.Controls.{Controls, Move, Standing, acts, are_free, arm_for, arms_of, assigns, branches, breaks, decides, does, first_place, gets_data, goes_on, hop_of, is_case, is_choice, is_none_arm, is_other, loads, locks, low_byte, none_arm, operand_value, or_from, peeks, plainly, puts_items, reaps, releases_locks, rest_at, returns_to, sets_variable, settled, submits, takes_locks, tries_to_take, variable, wrapped}
 use Rattle.rc_world.proofs.Laid.{laid}
 use Rattle.rc_world.proofs.LawLists.{get_in_range, range_has}
 
@@ -148,6 +148,10 @@ module _ (program : Program) (is : IsProgram program) (i : ℕ) where
     submit_place x (Number v) e = same_place _ e
     submit_place x _ e = absurd (cc)
 
+    get_place : (b : Answer) → gets_data c t b ≡ Some m → m.place ≡ t.place + 1
+    get_place (Front v) e = same_place _ e
+    get_place _ e = absurd (cc)
+
     reap_place : (b : Answer) → reaps c t b ≡ Some m → m.place ≡ t.place + 1
     reap_place (Front v) e = same_place _ e
     reap_place _ e = absurd (cc)
@@ -173,6 +177,7 @@ module _ (program : Program) (is : IsProgram program) (i : ℕ) where
     op_place (SetData64 u) e = plain_place (goes_on c t (DataSet u)) a e
     op_place (Submit x) e = submit_place x a e
     op_place (SubmitAndWait x n) e = submit_place x a e
+    op_place CqeGetData64 e = get_place a e
     op_place CqeSeen e = reap_place a e
 
     goes_to : (j : ℕ) → m.place ≡ j → IsOpen (lines_of program i) j → IsOpen (lines_of program i) m.place

@@ -88,5 +88,6 @@ rings_same w k t r s small after e = subst (OnSome (IsSameBut w)) e (in_rings_by
       record { program = refl; controls = refl; kept = record { made = k.made; room = omega arith; slot = record { exists = in_buffers w.program s small q p; room = room }; queued = k.queued; memory = k.memory } };
   queues = λ u q i h. record { program = refl; controls = refl; kept = kept_queued w k q (w.made + 1) u (w.made + 1) h };
   submits = λ n. subst (IsSameBut w) (sym (handed_is w n)) (record { program = refl; controls = refl; kept = kept_handed w k n });
+  gets = λ c cs h. record { program = refl; controls = refl; kept = record { made = k.made; room = k.room; slot = k.slot; queued = k.queued; memory = k.memory } };
   reaps = λ c cs h. record { program = refl; controls = refl; kept = record { made = k.made; room = k.room; slot = k.slot; queued = k.queued; memory = k.memory } };
 }))

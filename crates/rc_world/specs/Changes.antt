@@ -1,5 +1,5 @@
 -- The parts of a step of a thread in its controls, one after another.
-use Rattle.std.specs.Prelude.{ℕ, ◌≡◌, ◌<◌, ◌≤◌, [], if◌then◌else◌, Bool, false, length, Option, Some, option_map, slice_index_or, slice_set, ℤ}
+use Rattle.std.specs.Prelude.{ℕ, ◌≡◌, ◌<◌, ◌≤◌, [], if◌then◌else◌, Bool, length, Option, Some, option_map, slice_index_or, slice_set, ℤ}
 use Rattle.rc_lang.specs.declared.lines.Op.{Op}
 use Rattle.rc_lang.specs.declared.lines.Op.TheVariants.{Set, Assign, Add, Subtract, Load, Store, Fill, Print, PrepRead, PrepWrite, PrepFsync, Submit, SubmitAndWait}
 use Rattle.rc_lang.specs.declared.lines.Stmt.{Stmt}
@@ -10,6 +10,7 @@ use Rattle.rc_lang.specs.Program.{IsOperand, IsProgram, Items, Program, items_at
 use Rattle.rc_split.specs.Pools.{Pools, taken_from}
 use Rattle.rc_world.specs.declared.controls.Answer.{Answer}
 use Rattle.rc_world.specs.declared.controls.Holders.{Holders}
+use Rattle.rc_world.specs.declared.controls.Look.TheVariants.{Unseen}
 use Rattle.rc_world.specs.declared.event.Action.{Action}
 use Rattle.rc_world.specs.Controls.{Controls, Move, Standing, acts, branches, hop_of, is_arm_end, made, passes_arm, rest_at}
 
@@ -64,7 +65,7 @@ abbrev pub gone_to : Program → Controls → ℕ → ℕ → Controls
 gone_to program c i j =
     record c {
       threads = slice_set c.threads i (record { place = rest_at program i j; variables = (standing_at c i).variables });
-      peeked = if passes_arm program i j then false else c.peeked;
+      look = if passes_arm program i j then Unseen else c.look;
     }
 
 -- The thread is at place j of a made program, where this statement is.

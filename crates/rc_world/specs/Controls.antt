@@ -1,12 +1,12 @@
 -- Where each thread is, and what a step of it does there, given what the rings and buffers answer.
-use Rattle.std.specs.Prelude.{ℕ, zero, suc, ◌+◌, ◌%◌, Bool, true, false, ◌&&◌, ◌||◌, if◌then◌else◌, List, length, map, replicate, Option, Some, None, nat_eq, position, unwrap_or, slice_get, slice_index_or, slice_range, slice_set, ℤ, pos, negsuc, ◌+ℤ◌, ◌-ℤ◌, int_le}
+use Rattle.std.specs.Prelude.{ℕ, zero, suc, ◌+◌, ◌%◌, Bool, true, false, ◌&&◌, ◌||◌, if◌then◌else◌, List, length, map, replicate, Option, Some, None, nat_eq, option_map, position, unwrap_or, slice_get, slice_index_or, slice_range, slice_set, ℤ, pos, negsuc, ◌+ℤ◌, ◌-ℤ◌, int_le}
 use Rattle.std.specs.Int.{cast_unsigned, int_wrap, w64}
 use Rattle.std.specs.Ordering.{int_eq}
 use Rattle.rc_lang.specs.Comparisons.{compares}
 use Rattle.rc_lang.specs.declared.lines.Line.{Line}
 use Rattle.rc_lang.specs.declared.lines.Locks.{Locks}
 use Rattle.rc_lang.specs.declared.lines.Op.{Op}
-use Rattle.rc_lang.specs.declared.lines.Op.TheVariants.{Set, Assign, Add, Subtract, Load, Store, Fill, Print, GetSqe, PrepRead, PrepWrite, PrepFsync, PrepNop, PrepOther, SetData64, Submit, SubmitAndWait, CqeSeen}
+use Rattle.rc_lang.specs.declared.lines.Op.TheVariants.{Set, Assign, Add, Subtract, Load, Store, Fill, Print, GetSqe, PrepRead, PrepWrite, PrepFsync, PrepNop, PrepOther, SetData64, Submit, SubmitAndWait, CqeGetData64, CqeSeen}
 use Rattle.rc_lang.specs.declared.lines.Operand.{Operand}
 use Rattle.rc_lang.specs.declared.lines.Operand.TheVariants.{Variable, Number as Literal}
 use Rattle.rc_lang.specs.declared.lines.Stmt.{Stmt}
@@ -18,8 +18,10 @@ use Rattle.rc_split.specs.Pools.{Pools, all_pooled, empty_pools, includes, overf
 use Rattle.rc_world.specs.declared.controls.Answer.{Answer}
 use Rattle.rc_world.specs.declared.controls.Answer.TheVariants.{Plain, Number, Byte, Front}
 use Rattle.rc_world.specs.declared.controls.Holders.{Holders}
+use Rattle.rc_world.specs.declared.controls.Look.{Look}
+use Rattle.rc_world.specs.declared.controls.Look.TheVariants.{Unseen, Peeked as InView, Got}
 use Rattle.rc_world.specs.declared.event.Action.{Action}
-use Rattle.rc_world.specs.declared.event.Action.TheVariants.{VariableSet, Loaded, Stored, Filled, Printed, Locked, Released, EntryOpened, ReadPrepared, WritePrepared, FsyncPrepared, NopPrepared, OtherPrepared, DataSet, Submitted, Peeked, PeekedNone, Reaped, Branched, Looped, LoopLeft, ItemsPut}
+use Rattle.rc_world.specs.declared.event.Action.TheVariants.{VariableSet, Loaded, Stored, Filled, Printed, Locked, Released, EntryOpened, ReadPrepared, WritePrepared, FsyncPrepared, NopPrepared, OtherPrepared, DataSet, Submitted, Peeked, PeekedNone, DataGot, Reaped, Branched, Looped, LoopLeft, ItemsPut}
 use Rattle.rc_world.specs.declared.event.Event.{Event}
 use Rattle.rc_world.specs.declared.event.Event.TheVariants.{ByThread}
 
@@ -28,11 +30,12 @@ pub record Standing : Type 0 where
   pub place : ℕ
   pub variables : List ℤ
 
--- Where each thread is, who holds the lock of each side of the ring, whether the front completion is peeked, and the pools.
+-- Where each thread is, who holds the lock of each side of the ring, what was done with the front completion, and the
+-- pools.
 pub record Controls : Type 0 where
   pub threads : List Standing
   pub holders : Holders
-  pub peeked : Bool
+  pub look : Look
   pub pools : Pools
 
 -- ---- locks
@@ -134,23 +137,23 @@ none_arm program i o = o + unwrap_or (first_place (is_none_arm o) (arms_of progr
 
 -- ---- what a statement does
 
--- What the thread does, who holds the locks then, whether the front is peeked, the pools, where the thread goes, and its
--- variables.
+-- What the thread does, who holds the locks then, what was done with the front, the pools, where the thread goes, and
+-- its variables.
 pub record Move : Type 0 where
   pub action : Action
   pub holders : Holders
-  pub peeked : Bool
+  pub look : Look
   pub pools : Pools
   pub place : ℕ
   pub variables : List ℤ
 
 -- to the next line
 abbrev pub goes_on : Controls → Standing → Action → Move
-goes_on c t action = record { action = action; holders = c.holders; peeked = c.peeked; pools = c.pools; place = t.place + 1; variables = t.variables }
+goes_on c t action = record { action = action; holders = c.holders; look = c.look; pools = c.pools; place = t.place + 1; variables = t.variables }
 
 -- to the next line, with another value of a variable
 abbrev pub sets_variable : Controls → Standing → ℕ → ℤ → Action → Move
-sets_variable c t x v action = record { action = action; holders = c.holders; peeked = c.peeked; pools = c.pools; place = t.place + 1; variables = slice_set t.variables x v }
+sets_variable c t x v action = record { action = action; holders = c.holders; look = c.look; pools = c.pools; place = t.place + 1; variables = slice_set t.variables x v }
 
 -- where nothing is answered
 abbrev pub plainly : Move → Answer → Option Move
@@ -168,10 +171,18 @@ abbrev pub submits : Controls → Standing → ℕ → Answer → Option Move
 submits c t x (Number n) = Some (sets_variable c t x n (Submitted n))
 submits c t x _ = None
 
+-- the user data of the front completion, where that is the answer
+abbrev pub user_data_in : Answer → Option ℕ
+user_data_in (Front cqe) = Some cqe.user_data
+user_data_in _ = None
+
+-- io_uring_cqe_get_data64(3): then the front is got.
+abbrev pub gets_data : Controls → Standing → Answer → Option Move
+gets_data c t a = option_map (λ u. record (goes_on c t (DataGot u)) { look = Got }) (user_data_in a)
+
 -- io_uring_cqe_seen(3): then nothing is peeked.
 abbrev pub reaps : Controls → Standing → Answer → Option Move
-reaps c t (Front cqe) = Some (record { action = Reaped cqe.user_data; holders = c.holders; peeked = false; pools = c.pools; place = t.place + 1; variables = t.variables })
-reaps c t _ = None
+reaps c t a = option_map (λ u. record (goes_on c t (Reaped u)) { look = Unseen }) (user_data_in a)
 
 abbrev pub does : Controls → Standing → Op → Answer → Option Move
 does c t (Set x n) a = assigns c t x n a
@@ -191,12 +202,13 @@ does c t PrepOther a = plainly (goes_on c t OtherPrepared) a
 does c t (SetData64 u) a = plainly (goes_on c t (DataSet u)) a
 does c t (Submit x) a = submits c t x a
 does c t (SubmitAndWait x n) a = submits c t x a
+does c t CqeGetData64 a = gets_data c t a
 does c t CqeSeen a = reaps c t a
 
 -- An if whose test is false leads past its else or, without one, past its closing brace.
 abbrev pub branches : Program → Controls → ℕ → Standing → Bool → Move
 branches program c i t holds =
-    record { action = Branched holds; holders = c.holders; peeked = c.peeked; pools = c.pools; place = (if holds then t.place else end_at program i t.place) + 1; variables = t.variables }
+    record { action = Branched holds; holders = c.holders; look = c.look; pools = c.pools; place = (if holds then t.place else end_at program i t.place) + 1; variables = t.variables }
 
 -- What an `if take` asks for leaves the pool that it names where that has it, and else nothing does.
 abbrev pub tries_to_take : Program → Controls → ℕ → Standing → Option ℕ → Items → Move
@@ -221,9 +233,9 @@ decides program c i t _ _ = None
 -- io_uring_peek_cqe(3): without a completion the variable is -EAGAIN, else the front's result, and the front is peeked.
 abbrev pub peeks : Program → Controls → ℕ → Standing → ℕ → Answer → Option Move
 peeks program c i t x Plain =
-    Some (record { action = PeekedNone; holders = c.holders; peeked = c.peeked; pools = c.pools; place = none_arm program i t.place + 1; variables = slice_set t.variables x (negsuc 10) })
+    Some (record { action = PeekedNone; holders = c.holders; look = c.look; pools = c.pools; place = none_arm program i t.place + 1; variables = slice_set t.variables x (negsuc 10) })
 peeks program c i t x (Front cqe) =
-    Some (record { action = Peeked cqe; holders = c.holders; peeked = true; pools = c.pools; place = arm_for program i t.place cqe.user_data + 1; variables = slice_set t.variables x cqe.res })
+    Some (record { action = Peeked cqe; holders = c.holders; look = InView; pools = c.pools; place = arm_for program i t.place cqe.user_data + 1; variables = slice_set t.variables x cqe.res })
 peeks program c i t x _ = None
 
 -- The items go to the pool that is named, where all pools together have room for them.
@@ -246,12 +258,12 @@ releases c t released a = plainly (releases_locks c t released) a
 
 -- back to the line after the top of the loop at place o
 abbrev pub returns_to : Controls → Standing → ℕ → Move
-returns_to c t o = record { action = Looped; holders = c.holders; peeked = c.peeked; pools = c.pools; place = o + 1; variables = t.variables }
+returns_to c t o = record { action = Looped; holders = c.holders; look = c.look; pools = c.pools; place = o + 1; variables = t.variables }
 
 -- A break leads past the end of the loop at place o. It may release locks, and leave an arm of a peek.
 abbrev pub breaks : Program → Controls → ℕ → Standing → ℕ → Locks → Bool → Move
 breaks program c i t o releases leaves =
-    record { action = LoopLeft; holders = held_by None releases c.holders; peeked = if leaves then false else c.peeked; pools = c.pools; place = end_at program i o + 1; variables = t.variables }
+    record { action = LoopLeft; holders = held_by None releases c.holders; look = if leaves then Unseen else c.look; pools = c.pools; place = end_at program i o + 1; variables = t.variables }
 
 abbrev pub acts : Program → Controls → ℕ → Standing → Stmt → Answer → Option Move
 acts program c i t (Do op) a = does c t op a
@@ -270,7 +282,7 @@ abbrev pub moved : Program → Controls → ℕ → Move → Controls
 moved program c i m = record {
   threads = slice_set c.threads i (record { place = rest_at program i m.place; variables = m.variables });
   holders = m.holders;
-  peeked = if passes_arm program i m.place then false else m.peeked;
+  look = if passes_arm program i m.place then Unseen else m.look;
   pools = m.pools;
 }
 
@@ -314,4 +326,4 @@ controls_step program c i a = acts_on program c i a (slice_get c.threads i) (nex
 
 -- Every thread at its first line, its variables 0; the locks are free, nothing is peeked, and the pools are empty.
 abbrev pub start_controls : Program → Controls
-start_controls program = record { threads = map (λ (t : Thread). record { place = 0; variables = replicate 64 (pos 0) }) program.threads; holders = nobody; peeked = false; pools = empty_pools (length program.pools) }
+start_controls program = record { threads = map (λ (t : Thread). record { place = 0; variables = replicate 64 (pos 0) }) program.threads; holders = nobody; look = Unseen; pools = empty_pools (length program.pools) }

@@ -3,7 +3,7 @@ use Rattle.std.specs.Prelude.{ℕ, ◌+◌, Bool, true, false, ◌&&◌, ◌||�
 use Rattle.std.specs.List.{list_any}
 use Rattle.rc_lang.specs.declared.lines.Line.{Line}
 use Rattle.rc_lang.specs.declared.lines.Op.{Op}
-use Rattle.rc_lang.specs.declared.lines.Op.TheVariants.{Set, Assign, Add, Subtract, Load, Store, Fill, Print, GetSqe, PrepRead, PrepWrite, PrepFsync, PrepNop, PrepOther, SetData64, Submit, SubmitAndWait, CqeSeen}
+use Rattle.rc_lang.specs.declared.lines.Op.TheVariants.{Set, Assign, Add, Subtract, Load, Store, Fill, Print, GetSqe, PrepRead, PrepWrite, PrepFsync, PrepNop, PrepOther, SetData64, Submit, SubmitAndWait, CqeGetData64, CqeSeen}
 use Rattle.rc_lang.specs.declared.lines.Stmt.{Stmt}
 use Rattle.rc_lang.specs.declared.lines.Stmt.TheVariants.{Do, Put, EndLock, If, Peek, Break}
 use Rattle.rc_lang.specs.declared.lines.Test.{Test}
@@ -13,6 +13,8 @@ use Rattle.rc_lang.specs.declared.request.Kind.TheVariants.{Nop, Fsync, Read, Wr
 use Rattle.rc_lang.specs.declared.request.Request.{Request}
 use Rattle.rc_lang.specs.Program.{Program, bytes_at, items_at, lists_of}
 use Rattle.rc_split.specs.Pools.{all_pooled, overfills}
+use Rattle.rc_world.specs.declared.controls.Look.{Look}
+use Rattle.rc_world.specs.declared.controls.Look.TheVariants.{Unseen, Peeked, Got}
 use Rattle.rc_world.specs.declared.event.Completion.{Completion}
 use Rattle.rc_world.specs.declared.fault.Fault.{Fault}
 use Rattle.rc_world.specs.declared.fault.FaultKind.{FaultKind}
@@ -156,6 +158,13 @@ abbrev pub front_is_one : World → List Completion → Bool
 front_is_one w [] = false
 front_is_one w (c ∷ cs) = nat_eq (count_of c.user_data w.completed) 1
 
+-- The front completion is peeked and that of exactly one such request, or it is got.
+abbrev pub front_is_known : World → Look → List Completion → Bool
+front_is_known w Unseen cs = false
+front_is_known w Peeked cs = front_is_one w cs
+front_is_known w Got [] = false
+front_is_known w Got (c ∷ cs) = true
+
 -- F5: the next of who has the submission side is `get_sqe`, and no entry is free (io_uring_get_sqe(3)).
 abbrev pub is_full_at : World → Stmt → Bool
 is_full_at w (Do GetSqe) = nat_le w.program.entries (used_entries w)
@@ -167,10 +176,11 @@ abbrev pub is_ambiguous_at : World → Stmt → Bool
 is_ambiguous_at w (Do (SetData64 u)) = is_prepared w.slot && is_in_flight w u
 is_ambiguous_at w _ = false
 
--- F8: the next of who has the completion side is `cqe_seen`, and nothing is peeked, or the front isn't that of exactly
--- one request.
+-- F8: the next of who has the completion side is `cqe_seen` or `cqe_get_data64`, and nothing is peeked, or the front
+-- isn't got and isn't that of exactly one request.
 abbrev pub is_unknown_at : World → Stmt → Bool
-is_unknown_at w (Do CqeSeen) = not (w.controls.peeked && front_is_one w w.completions)
+is_unknown_at w (Do CqeGetData64) = not (front_is_known w w.controls.look w.completions)
+is_unknown_at w (Do CqeSeen) = not (front_is_known w w.controls.look w.completions)
 is_unknown_at w _ = false
 
 -- F9: a call is next of a thread that hasn't the lock of its side. Calls on the pool without a name are of both sides,
@@ -184,6 +194,7 @@ is_sq_op (Load x b i) = false
 is_sq_op (Store b i x) = false
 is_sq_op (Fill b x) = false
 is_sq_op (Print x) = false
+is_sq_op CqeGetData64 = false
 is_sq_op CqeSeen = false
 is_sq_op _ = true
 
@@ -201,6 +212,7 @@ is_sq_call (If test) = is_sq_test test
 is_sq_call _ = false
 
 abbrev pub is_cq_call : Stmt → Bool
+is_cq_call (Do CqeGetData64) = true
 is_cq_call (Do CqeSeen) = true
 is_cq_call (Put pool k) = is_none pool
 is_cq_call (If (Take pool k)) = is_none pool

@@ -2,7 +2,7 @@
 use Rattle.std.specs.Prelude.{ℕ, suc, ◌+◌, ◌-◌, Bool, true, false, ◌&&◌, if◌then◌else◌, List, [], ◌∷◌, ◌++◌, take, drop, map, replicate, length, Option, Some, None, nat_eq, nat_lt, nat_le, slice_get, slice_index, slice_index_or, slice_set, ℤ, pos, negsuc}
 use Rattle.rc_lang.specs.declared.lines.Line.{Line}
 use Rattle.rc_lang.specs.declared.lines.Op.{Op}
-use Rattle.rc_lang.specs.declared.lines.Op.TheVariants.{Load, Store, Fill, GetSqe, PrepRead, PrepWrite, PrepFsync, PrepNop, PrepOther, SetData64, Submit, SubmitAndWait, CqeSeen}
+use Rattle.rc_lang.specs.declared.lines.Op.TheVariants.{Load, Store, Fill, GetSqe, PrepRead, PrepWrite, PrepFsync, PrepNop, PrepOther, SetData64, Submit, SubmitAndWait, CqeGetData64, CqeSeen}
 use Rattle.rc_lang.specs.declared.lines.Stmt.{Stmt}
 use Rattle.rc_lang.specs.declared.lines.Stmt.TheVariants.{Do, If, Peek}
 use Rattle.rc_lang.specs.declared.lines.Test.{Test}
@@ -14,6 +14,8 @@ use Rattle.rc_lang.specs.Program.{Buffer, Program, bytes_at}
 use Rattle.rc_lang.specs.Requests.{may_complete}
 use Rattle.rc_world.specs.declared.controls.Answer.{Answer}
 use Rattle.rc_world.specs.declared.controls.Answer.TheVariants.{Plain, Number, Byte, Front}
+use Rattle.rc_world.specs.declared.controls.Look.{Look}
+use Rattle.rc_world.specs.declared.controls.Look.TheVariants.{Unseen, Peeked, Got}
 use Rattle.rc_world.specs.declared.event.Completion.{Completion}
 use Rattle.rc_world.specs.declared.event.Event.{Event}
 use Rattle.rc_world.specs.declared.event.Event.TheVariants.{ByKernel}
@@ -138,10 +140,22 @@ abbrev pub without_data : ℕ → List Request → List Request
 without_data u [] = []
 without_data u (r ∷ rs) = if nat_eq r.user_data u then rs else r ∷ without_data u rs
 
+-- The completed requests without that of the front completion, which has this user data. Where the front is got, that
+-- was reaped before.
+abbrev pub without_front : Look → ℕ → List Request → List Request
+without_front Unseen u rs = without_data u rs
+without_front Peeked u rs = without_data u rs
+without_front Got u rs = rs
+
+-- io_uring_cqe_get_data64(3): the request of the front completion is reaped.
+abbrev pub gets_front : World → List Completion → Option World
+gets_front w [] = None
+gets_front w (c ∷ cs) = Some (record w { completed = without_front w.controls.look c.user_data w.completed })
+
 -- io_uring_cqe_seen(3): the front completion goes, and its request is reaped.
 abbrev pub reaps_front : World → List Completion → Option World
 reaps_front w [] = None
-reaps_front w (c ∷ cs) = Some (record w { completions = cs; completed = without_data c.user_data w.completed })
+reaps_front w (c ∷ cs) = Some (record w { completions = cs; completed = without_front w.controls.look c.user_data w.completed })
 
 -- The numbers that a step may be given: a submit its answer, a free choice 1 or 0, and any other statement makes nothing of
 -- it.
@@ -164,6 +178,7 @@ op_in_rings w t r PrepOther = prepares w prepared_other w.slot
 op_in_rings w t r (SetData64 u) = queues w u w.slot
 op_in_rings w t r (Submit x) = submits_by w r
 op_in_rings w t r (SubmitAndWait x n) = submits_by w r
+op_in_rings w t r CqeGetData64 = gets_front w w.completions
 op_in_rings w t r CqeSeen = reaps_front w w.completions
 op_in_rings w t r _ = Some w
 
@@ -185,6 +200,7 @@ abbrev pub op_answer : World → ℤ → Op → Answer
 op_answer w r (Load x b i) = byte_of i (bytes_of w b)
 op_answer w r (Submit x) = Number r
 op_answer w r (SubmitAndWait x n) = Number r
+op_answer w r CqeGetData64 = front_of w.completions
 op_answer w r CqeSeen = front_of w.completions
 op_answer w r _ = Plain
 

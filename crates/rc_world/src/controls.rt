@@ -1,21 +1,21 @@
-//! Where each thread is, its variables, who holds the locks, whether the front completion is peeked, and the pools.
+//! Where each thread is, its variables, who holds the locks, what was done with the front completion, and the pools.
 
-ghost use Rattle.std.specs.Prelude.{◌≡◌, ◌<◌, ◌≤◌, ◌&&◌, is_none, length, map, option_map, pos, replicate, ◌+ℤ◌, ◌-ℤ◌, slice_get, IfOk, IsSome, IsOkAnd};
-ghost use Rattle.rc_lang.specs.declared.lines.Stmt.TheVariants.{Do};
-ghost use Rattle.rc_lang.specs.Program.{IsProgram, IsOperand};
-ghost use Rattle.rc_world.specs.Changes.{Acts, CallIsSmall, StandsAt, act_at, standing_at};
+ghost use Rattle.std.specs.Prelude.{◌≡◌, ◌<◌, ◌≤◌, ◌&&◌, is_none, length, map, option_map, pos, replicate, slice_get, IfOk, IsSome, IsOkAnd};
+ghost use Rattle.rc_lang.specs.Program.{IsProgram};
+ghost use Rattle.rc_world.specs.Changes.{Acts, StandsAt, act_at, standing_at};
 ghost use Rattle.rc_world.specs.Parts.{at_first_line};
 ghost use Rattle.rc_world.specs.Controls as spec;
 ghost use Rattle.rc_world.specs.Readers as readers;
 
 use self::places::{is_holder, ready_or_taken};
 use crate::event::{Action, Completion, Event};
-use rc_lang::lines::{Line, Locks, Op, Operand, Stmt};
+use rc_lang::lines::{Line, Locks, Stmt};
 use rc_lang::program::{Program, Thread};
 use rc_split::pools::Pools;
 use std::alloc::{AllocError, Global};
 use std::marker::Model;
 
+mod calls;
 mod places;
 mod steps;
 mod weak;
@@ -51,8 +51,19 @@ pub enum Answer {
     Number(i32),
     /// The byte that is loaded.
     Byte(u8),
-    /// The front completion, to a peek or to `cqe_seen`.
+    /// The front completion, to a peek, to `cqe_get_data64` or to `cqe_seen`.
     Front(Completion),
+}
+
+/// What was done with the front completion.
+#[derive(Clone, Copy)]
+pub enum Look {
+    /// Nothing.
+    Unseen,
+    /// It was peeked.
+    Peeked,
+    /// It was peeked, and its user data was got: its request is reaped.
+    Got,
 }
 
 /// Which thread holds each of the two locks.
@@ -94,12 +105,12 @@ impl Holders {
     }
 }
 
-/// Where each thread of a program is, who holds the locks, whether the front completion is peeked, and the pools.
+/// Where each thread of a program is, who holds the locks, what was done with the front completion, and the pools.
 #[derive(Drop)]
 pub struct Controls {
     threads: Vec<Control>,
     holders: Holders,
-    peeked: bool,
+    look: Look,
     pools: Pools,
 }
 
@@ -114,7 +125,7 @@ impl Model for Controls {
     ghost view = { λ c. record {
       threads = map view_control c.threads.items;
       holders = c.holders;
-      peeked = c.peeked;
+      look = c.look;
       pools = c.pools;
     } };
 
@@ -134,7 +145,7 @@ impl Controls {
         Ok(Controls {
             threads: first_places(alloc, program.threads())?,
             holders: Holders { sq: None, cq: None },
-            peeked: false,
+            look: Look::Unseen,
             pools: Pools::empty(alloc, program.pools().len())?,
         })
     }
@@ -165,11 +176,11 @@ impl Controls {
         Ok(self.step(program, thread, answer))
     }
 
-    /// Whether the front completion is peeked.
-    pub fn peeked(&self) -> bool
-        ensures { result ≡ self.now.peeked }
+    /// What was done with the front completion.
+    pub fn look(&self) -> Look
+        ensures { result ≡ self.now.look }
     {
-        self.peeked
+        self.look
     }
 
     /// What is in the pools.
@@ -287,65 +298,6 @@ impl Controls {
             Stmt::Nothing(_) | Stmt::EndArm(_) | Stmt::EndPeek(_) => unreachable!(),
         }
     }
-
-    // The step of a statement without a block.
-    fn call(
-        &mut self,
-        program: &Program,
-        thread: u32,
-        place: usize,
-        op: Op,
-        answer: Answer,
-    ) -> Action
-        requires exists { thread < length self.old.threads }
-        requires here { (standing_at self.old thread).place ≡ place }
-        requires within { place ≤ 4096 }
-        requires small { CallIsSmall program.now op }
-        requires step { IsSome (spec.does self.old (standing_at self.old thread) op answer) }
-        ensures { Acts program.now thread self.old (Do op) answer result self.new }
-    {
-        let action = match op {
-            Op::Set(x, n) => return self.assign(program, thread, place, x, n),
-            Op::Assign(x, y) => {
-                return self.assign(program, thread, place, x, self.variable(thread, y));
-            }
-            Op::Add(x, a, b) => {
-                let value = sum(self.operand(thread, a), self.operand(thread, b));
-                return self.assign(program, thread, place, x, value);
-            }
-            Op::Subtract(x, a, b) => {
-                let value = difference(self.operand(thread, a), self.operand(thread, b));
-                return self.assign(program, thread, place, x, value);
-            }
-            Op::Load(x, _, _) => return self.load(program, thread, place, x, answer),
-            Op::Submit(x) => return self.submit(program, thread, place, x, answer),
-            Op::SubmitAndWait(x, _) => return self.submit(program, thread, place, x, answer),
-            Op::CqeSeen => return self.reap(program, thread, place, answer),
-            Op::Store(_, _, x) => Action::Stored(self.byte(thread, x)),
-            Op::Fill(_, x) => Action::Filled(self.byte(thread, x)),
-            Op::Print(x) => Action::Printed(self.variable(thread, x)),
-            Op::GetSqe => Action::EntryOpened,
-            Op::PrepRead(_, _, _, _) => Action::ReadPrepared,
-            Op::PrepWrite(_, _, _, _, _) => Action::WritePrepared,
-            Op::PrepFsync(_, _) => Action::FsyncPrepared,
-            Op::PrepNop => Action::NopPrepared,
-            Op::PrepOther => Action::OtherPrepared,
-            Op::SetData64(user_data) => Action::DataSet(user_data),
-        };
-        self.pass(program, thread, place, action)
-    }
-
-    // The value of an operand.
-    fn operand(&self, thread: u32, operand: Operand) -> i64
-        requires exists { thread < length self.now.threads }
-        requires within { IsOperand 64 operand }
-        ensures { result ≡ spec.operand_value (standing_at self.now thread) operand }
-    {
-        match operand {
-            Operand::Variable(x) => self.variable(thread, x),
-            Operand::Number(n) => n,
-        }
-    }
 }
 
 // Whether nobody holds a lock, if it is wanted.
@@ -377,18 +329,4 @@ fn first_places(alloc: Global, threads: &[Thread]) -> Result<Vec<Control>, Alloc
         variables: [0; 64],
     };
     Ok(vec![in alloc; begun; threads.len()]?)
-}
-
-// The sum, wrapped to 64 bits.
-fn sum(a: i64, b: i64) -> i64
-    ensures { result ≡ spec.wrapped (a +ℤ b) }
-{
-    a.wrapping_add(b)
-}
-
-// The difference, wrapped to 64 bits.
-fn difference(a: i64, b: i64) -> i64
-    ensures { result ≡ spec.wrapped (a -ℤ b) }
-{
-    a.wrapping_sub(b)
 }

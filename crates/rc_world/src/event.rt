@@ -48,6 +48,8 @@ pub enum Action {
     Peeked(Completion),
     /// A peek saw no completion.
     PeekedNone,
+    /// The user data of the front completion was got, and this was it.
+    DataGot(u64),
     /// The completion of this user data was taken away.
     Reaped(u64),
     /// An if was decided, by yes or no.

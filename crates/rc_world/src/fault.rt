@@ -23,7 +23,8 @@ pub enum FaultKind {
     Overflow,
     /// F7: `set_data64` is next with user data that a request in flight has.
     AmbiguousData,
-    /// F8: `cqe_seen` is next and no completion of exactly one request was peeked.
+    /// F8: `cqe_seen` or `cqe_get_data64` is next, and no completion was peeked that is got or that of exactly one
+    /// request.
     UnknownReap,
     /// F9: a call on the ring or on the pool without a name is next, of a thread without the lock of its side, or of
     /// both.

@@ -310,6 +310,7 @@ impl<'a> World<'a> {
             Stmt::Do(Op::Load(_, buffer, i)) => self.byte(buffer, i),
             Stmt::Do(Op::Submit(_)) => Answer::Number(given),
             Stmt::Do(Op::SubmitAndWait(_, _)) => Answer::Number(given),
+            Stmt::Do(Op::CqeGetData64) => self.front(),
             Stmt::Do(Op::CqeSeen) => self.front(),
             Stmt::If(Test::ReadyZero) => Answer::Number(self.used_entries() as i32),
             Stmt::If(Test::SpaceAtLeast(_)) => self.space_left(),

@@ -1,7 +1,7 @@
 //! What the steps of threads do to their controls.
 
 ghost use Rattle.std.specs.Prelude.{◌≡◌, ◌<◌, ◌≤◌, length, Some, IsSome};
-ghost use Rattle.rc_lang.specs.declared.lines.Op.TheVariants.{CqeSeen, Set, Submit};
+ghost use Rattle.rc_lang.specs.declared.lines.Op.TheVariants.{Set, Submit};
 ghost use Rattle.rc_lang.specs.declared.lines.Stmt.TheVariants.{Break, Do, If, Lock, Peek, Put};
 ghost use Rattle.rc_lang.specs.Program.{end_at, lists_of};
 ghost use Rattle.rc_split.specs.Pools.{includes, pool_of};
@@ -10,7 +10,7 @@ ghost use Rattle.rc_world.specs.Changes.{Acts, Decides, Moves, StandsAt, TestIsS
 ghost use Rattle.rc_world.specs.Controls.{controls_step, goes_on, loads, releases};
 
 use super::places::{arm_for, none_arm, number_of_event, rest};
-use super::{Answer, Controls};
+use super::{Answer, Controls, Look};
 use crate::event::{Action, Event};
 use rc_lang::lines::{Locks, Test};
 use rc_lang::program::Program;
@@ -101,27 +101,6 @@ impl Controls {
         };
         self.set(thread, x, i64::from(taken));
         self.pass(program, thread, place, Action::Submitted(taken))
-    }
-
-    // The step of `cqe_seen`.
-    pub(super) fn reap(
-        &mut self,
-        program: &Program,
-        thread: u32,
-        place: usize,
-        answer: Answer,
-    ) -> Action
-        requires exists { thread < length self.old.threads }
-        requires here { (standing_at self.old thread).place ≡ place }
-        requires within { place ≤ 4096 }
-        requires step { IsSome (act_at program.now thread self.old (Do CqeSeen) answer) }
-        ensures { Acts program.now thread self.old (Do CqeSeen) answer result self.new }
-    {
-        let Answer::Front(completion) = answer else {
-            unreachable!()
-        };
-        self.peeked = false;
-        self.pass(program, thread, place, Action::Reaped(completion.user_data))
     }
 
     // The step of a lock, whose locks nobody holds.
@@ -282,7 +261,7 @@ impl Controls {
             Answer::Front(completion) => {
                 let arm = arm_for(program, thread, place, completion.user_data);
                 self.set(thread, x, i64::from(completion.res));
-                self.peeked = true;
+                self.look = Look::Peeked;
                 self.go(program, thread, arm + 1);
                 Action::Peeked(completion)
             }
@@ -305,7 +284,7 @@ impl Controls {
     {
         self.holders = self.holders.held_by(None, releases);
         if leaves {
-            self.peeked = false;
+            self.look = Look::Unseen;
         }
         let end = program.end_at(thread as usize, top);
         self.go(program, thread, end + 1);
@@ -347,7 +326,7 @@ impl Controls {
         let (place, ends_arm) = rest(program, thread, start);
         self.threads[thread as usize].place = place;
         if ends_arm {
-            self.peeked = false;
+            self.look = Look::Unseen;
         }
     }
 }

@@ -21,7 +21,7 @@ impl Controls {
         self.threads.extend_from_slice(&other.threads)?;
         self.pools.copy_from(&other.pools)?;
         self.holders = other.holders;
-        self.peeked = other.peeked;
+        self.look = other.look;
         Ok(())
     }
 

@@ -13,6 +13,7 @@ use self::statements::{
 };
 use super::requests::is_read;
 use super::{Pending, World};
+use crate::controls::Look;
 use crate::fault::{Fault, FaultKind, Party};
 use rc_lang::lines::{Op, Stmt};
 use rc_lang::request::{Kind, Request};
@@ -205,7 +206,8 @@ impl<'a> World<'a> {
         ensures { result ≡ spec.is_unknown_at self.now stmt }
     {
         match stmt {
-            Stmt::Do(Op::CqeSeen) => !(self.controls.peeked() && self.front_is_one()),
+            Stmt::Do(Op::CqeGetData64) => !self.front_is_known(),
+            Stmt::Do(Op::CqeSeen) => !self.front_is_known(),
             _ => false,
         }
     }
@@ -239,6 +241,17 @@ impl<'a> World<'a> {
         match self.program.lists_of(thread as usize).get(k) {
             Some(items) => pools.are_overfilled_by(self.program, items),
             None => u64::from(self.program.completion_entries()) < pools.credits(),
+        }
+    }
+
+    // Whether the front completion is peeked and that of exactly one completed request, or got.
+    fn front_is_known(&self) -> bool
+        ensures { result ≡ spec.front_is_known self.now self.now.controls.look self.now.completions }
+    {
+        match self.controls.look() {
+            Look::Unseen => false,
+            Look::Peeked => self.front_is_one(),
+            Look::Got => !self.completions.is_empty(),
         }
     }
 

@@ -7,7 +7,7 @@ ghost use Rattle.rc_world.specs.Readers.{variable_in};
 
 use super::requests::place_of_pending;
 use super::{Slot, World};
-use crate::controls::Holders;
+use crate::controls::{Holders, Look};
 use crate::event::Completion;
 use rc_lang::lines::Line;
 use rc_lang::request::Request;
@@ -41,6 +41,13 @@ impl<'a> World<'a> {
         ensures { result ≡ self.now.controls.holders }
     {
         self.controls.holders()
+    }
+
+    /// What was done with the front completion.
+    pub fn look(&self) -> Look
+        ensures { result ≡ self.now.controls.look }
+    {
+        self.controls.look()
     }
 
     /// What is in the pools.
@@ -93,7 +100,7 @@ impl<'a> World<'a> {
         &self.completed
     }
 
-    /// The completions that aren't reaped, from the front.
+    /// The completions in the ring, from the front.
     pub fn completions(&self) -> &[Completion]
         ensures { result.now ≡ self.now.completions }
     {

@@ -18,6 +18,7 @@ use super::bytes::Bytes;
 use super::faults::{has_buffer, names};
 use super::requests::{is_read, place_of_pending, remove_first};
 use super::{Pending, Slot, World};
+use crate::controls::Look;
 use crate::event::{Completion, Event};
 use rc_lang::lines::{Op, Stmt};
 use rc_lang::request::{Kind, Request};
@@ -67,7 +68,8 @@ impl<'a> World<'a> {
             Op::PrepOther => self.prepare(new_request(Kind::Other, -1, 0, 0, 0)),
             Op::SetData64(user_data) => self.queue(user_data)?,
             Op::Submit(_) | Op::SubmitAndWait(_, _) => self.hand_over(taken)?,
-            Op::CqeSeen => self.reap(),
+            Op::CqeGetData64 => self.get_data(),
+            Op::CqeSeen => self.see(),
             _ => {}
         }
         Ok(())
@@ -146,13 +148,25 @@ impl<'a> World<'a> {
         Ok(())
     }
 
-    // The front completion goes, and its request is no longer in flight.
-    fn reap(&mut self)
+    // The request of the front completion is no longer in flight, which it wasn't before where the front is got.
+    fn get_data(&mut self)
+        requires { IsSome (machine.gets_front self.old self.old.completions) }
+        ensures { machine.gets_front self.old self.old.completions ≡ Some self.new }
+    {
+        let user_data = self.completions[0].user_data;
+        match self.controls.look() {
+            Look::Unseen | Look::Peeked => remove_first(&mut self.completed, user_data),
+            Look::Got => {}
+        }
+    }
+
+    // The same, and the front completion goes.
+    fn see(&mut self)
         requires { IsSome (machine.reaps_front self.old self.old.completions) }
         ensures { machine.reaps_front self.old self.old.completions ≡ Some self.new }
     {
-        let completion = self.completions.remove(0);
-        remove_first(&mut self.completed, completion.user_data);
+        self.get_data();
+        self.completions.remove(0);
     }
 
     // The pending request with this user data completes; the first bytes of a read become the fill byte.

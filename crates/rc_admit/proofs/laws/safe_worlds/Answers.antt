@@ -1,8 +1,10 @@
-use Rattle.std.proofs.Common.{sym}
 use Rattle.rc_world.specs.Machine.{start_world}
-use Rattle.rc_admit.specs.Worlds.{CallsUnderLock, DataIsFresh, EachReapsOne, EntrySuits, FindsEntry, HasRoom, NoKernelClash, NoReadOfFilling, NoThreadRace, NothingPutTwice, NoWriteOfPending, StaysWithinBuffers}
+use Rattle.rc_admit.specs.Worlds.{CallsUnderLock, DataIsFresh, EachReapsOne, EntrySuits, FindsEntry, HasRoom, NoKernelClash, NoneReapedTwice, NoReadOfFilling, NoThreadRace, NothingPutTwice, NoWriteOfPending, StaysWithinBuffers}
+use Rattle.rc_admit.proofs.Plain.{agree_without_gets}
+use Rattle.rc_admit.proofs.Reaping.{each_reaps_one, none_reaped_twice}
+use Rattle.rc_admit.proofs.Safe.{completions_agree}
 use Rattle.rc_admit.proofs.Flights.{one_of_each, run_tidy, start_tidy}
-use Rattle.rc_admit.proofs.Worlds.{calls_under_lock, data_is_fresh, each_reaps_one, entry_suits, finds_entry, has_room, no_kernel_clash, no_read_of_filling, no_thread_race, nothing_put_twice, no_write_of_pending, of_safe, stays_within_buffers}
+use Rattle.rc_admit.proofs.Worlds.{calls_under_lock, data_is_fresh, entry_suits, finds_entry, has_room, no_kernel_clash, no_read_of_filling, no_thread_race, nothing_put_twice, no_write_of_pending, of_safe, stays_within_buffers}
 use Rattle.rc_admit.proofs.laws.safe_worlds.Goals as goal
 
 pub returns-clause-no_write_of_pending : goal.returns-clause-no_write_of_pending
@@ -38,6 +40,9 @@ returns-clause-data_is_fresh c = of_safe DataIsFresh (λ w none. data_is_fresh w
 pub returns-clause-reaps_one : goal.returns-clause-reaps_one
 returns-clause-reaps_one c = of_safe EachReapsOne (λ w none. each_reaps_one w none)
 
+pub returns-clause-none_twice : goal.returns-clause-none_twice
+returns-clause-none_twice c = of_safe NoneReapedTwice (λ w none. none_reaped_twice w none)
+
 pub returns-clause-put_once : goal.returns-clause-put_once
 returns-clause-put_once c = of_safe NothingPutTwice (λ w none. nothing_put_twice w none)
 
@@ -45,4 +50,7 @@ pub returns-clause-data_is_one : goal.returns-clause-data_is_one
 returns-clause-data_is_one c P safe events w r = one_of_each w (run_tidy events (start_world P) w (start_tidy P) r)
 
 pub returns-clause-completions_agree : goal.returns-clause-completions_agree
-returns-clause-completions_agree c P safe events w r = sym (run_tidy events (start_world P) w (start_tidy P) r).agree
+returns-clause-completions_agree c = completions_agree
+
+pub returns-clause-agree_without_gets : goal.returns-clause-agree_without_gets
+returns-clause-agree_without_gets c = agree_without_gets

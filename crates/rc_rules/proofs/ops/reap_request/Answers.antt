@@ -1,26 +1,7 @@
 use Rattle.std.proofs.Common.{arith}
-use Rattle.rc_split.specs.Bags.{TokenOf}
-use Rattle.rc_rules.proofs.Lines.{line_few, line_is, line_token, one_at_most, one_credit}
-use Rattle.rc_rules.specs.States.{IsLine}
+use Rattle.rc_rules.proofs.Lines.{got_few, one_credit}
+use Rattle.rc_rules.specs.declared.mode.Peeked.TheVariants.{Sees}
 use Rattle.rc_rules.proofs.ops.reap_request.Goals as goal
 
-pub give_line-requires-clause-declared : goal.give_line-requires-clause-declared
-give_line-requires-clause-declared c = line_is _ _ c.args.user_data _ c.kind_of.ensures c.program.ensures.value c.program.ensures.made
-
-pub give-requires-clause-fresh : goal.give-requires-clause-fresh
-give-requires-clause-fresh c =
-    let P = c.args.holding.now.program in
-    let u = c.args.user_data in
-    omega (arith, c.give_line.ensures.each (TokenOf u), c.requires.free.1, line_token P c.kind_of.result u)
-
 pub give-requires-clause-small : goal.give-requires-clause-small
-give-requires-clause-small c = λ p.
-    let P = c.args.holding.now.program in
-    let l : IsLine P c.kind_of.result = line_is P _ c.args.user_data _ c.kind_of.ensures c.program.ensures.value c.program.ensures.made in
-    omega (arith, c.give_line.ensures.each p, c.requires.small p, line_few P c.kind_of.result p c.program.ensures.made l, one_at_most c.args.user_data p)
-
-pub give-requires-2-clause-small : goal.give-requires-2-clause-small
-give-requires-2-clause-small c = λ p.
-    let P = c.args.holding.now.program in
-    let l : IsLine P c.kind_of.result = line_is P _ c.args.user_data _ c.kind_of.ensures c.program.ensures.value c.program.ensures.made in
-    omega (arith, c.give.ensures.each p, c.give_line.ensures.each p, c.requires.small p, line_few P c.kind_of.result p c.program.ensures.made l, one_at_most c.args.user_data p, one_credit p)
+give-requires-clause-small c = λ p. omega (arith, c.give_request.ensures.gained.each p, c.requires.small p, got_few c.args.holding.now.program (Sees c.args.user_data) p c.give_request.ensures.made, one_credit p)

@@ -101,7 +101,7 @@ pub end_arms-requires-clause-alike : goal.end_arms-requires-clause-alike
 end_arms-requires-clause-alike c = arm_alike _ _ _ _ c.requires.reaches c.in-EndArm.field-0 (at c.requires.here c.in-EndArm.is)
 
 pub returns-in-EndArm-clause-passes : goal.returns-in-EndArm-clause-passes
-returns-in-EndArm-clause-passes c = arm_end_passes _ _ _ _ c.requires.reaches c.in-EndArm.field-0 c.end_arms.new.state c.end_arms.new.peek (at c.requires.here c.in-EndArm.is) c.end_arms.ensures.dead c.end_arms.ensures.same c.end_arms.ensures.ends
+returns-in-EndArm-clause-passes c = arm_end_passes _ _ _ _ c.requires.reaches c.in-EndArm.field-0 c.end_arms.new.state c.end_arms.new.peek c.end_arms.result (at c.requires.here c.in-EndArm.is) c.end_arms.ensures.gives c.end_arms.ensures.ends
 
 pub close_peek-requires : goal.close_peek-requires
 close_peek-requires c = end_peek_some _ _ _ _ c.requires.reaches c.in-EndPeek.field-0 (at c.requires.here c.in-EndPeek.is)
@@ -158,6 +158,9 @@ returns-in-If-clause-stays c = gives_stays _ _ _ _ _ c.enter_if.ensures.gives
 
 pub returns-in-Loop-clause-stays : goal.returns-in-Loop-clause-stays
 returns-in-Loop-clause-stays c = gives_stays _ _ _ _ _ c.open_loop.ensures.gives
+
+pub returns-in-EndArm-clause-stays : goal.returns-in-EndArm-clause-stays
+returns-in-EndArm-clause-stays c = gives_stays _ _ _ _ _ c.end_arms.ensures.gives
 
 pub returns-in-Break-clause-stays : goal.returns-in-Break-clause-stays
 returns-in-Break-clause-stays c = gives_stays _ _ _ _ _ c.leave_loop.ensures.gives

@@ -95,6 +95,7 @@ pub(super) fn is_cq_call(stmt: Stmt) -> bool
     ensures { result ≡ spec.is_cq_call stmt }
 {
     match stmt {
+        Stmt::Do(Op::CqeGetData64) => true,
         Stmt::Do(Op::CqeSeen) => true,
         Stmt::Put(pool, _) => pool.is_none(),
         Stmt::If(Test::Take(pool, _)) => pool.is_none(),
@@ -115,6 +116,7 @@ fn is_sq_op(op: Op) -> bool
         Op::Store(_, _, _) => false,
         Op::Fill(_, _) => false,
         Op::Print(_) => false,
+        Op::CqeGetData64 => false,
         Op::CqeSeen => false,
         _ => true,
     }

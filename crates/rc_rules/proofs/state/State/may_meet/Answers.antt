@@ -1,6 +1,6 @@
 use Rattle.std.proofs.Common.{[], ◌∷◌, subst, sym}
 use Rattle.rc_rules.specs.Premises.{Tests, Is}
-use Rattle.rc_rules.proofs.Alike.{some_join, left_join, right_join}
+use Rattle.rc_rules.proofs.Joins.{some_join, left_join, right_join}
 use Rattle.rc_rules.proofs.state.State.may_meet.Goals as goal
 
 pub returns-in-Some-Some : goal.returns-in-Some-Some

@@ -1,6 +1,7 @@
-use Rattle.std.proofs.Common.{◌≡◌, ◌+◌, ◌<◌, ◌≤◌, FitsSigned, w64, length, negsuc, rules, true, sym, ap, ◌∙◌, arith}
+use Rattle.std.proofs.Common.{◌≡◌, ◌+◌, ◌<◌, ◌≤◌, FitsSigned, w64, length, negsuc, rules, sym, ap, ◌∙◌, arith}
 use Rattle.std.proofs.lemmas.Int.{to_z-of_z}
 use Rattle.rc_lang.specs.Program.{end_at, lines_of}
+use Rattle.rc_world.specs.declared.controls.Look.TheVariants.{Peeked as InView}
 use Rattle.rc_world.specs.declared.event.Action.TheVariants.{Peeked, PeekedNone}
 use Rattle.rc_world.specs.Changes.{standing_at, with_variable}
 use Rattle.rc_world.specs.Controls.{Controls, arm_for, made, none_arm, peeks}
@@ -49,7 +50,7 @@ returns-in-Plain c =
     let i = c.args.thread in
     let place = ap (λ j. none_arm P i j + 1) c.requires.here.place in
     ap (λ a. made P old i (peeks P old i (standing_at old i) c.args.x a)) c.in-Plain.is
-    ∙ set_and_gone P old _ c.go.new.self i _ _ c.args.x (negsuc 10) old.holders old.peeked PeekedNone c.requires.here.exists c.set.ensures c.go.ensures
+    ∙ set_and_gone P old _ c.go.new.self i _ _ c.args.x (negsuc 10) old.holders old.look PeekedNone c.requires.here.exists c.set.ensures c.go.ensures
     (ap (λ n. n + 1) c.none_arm-arm.ensures.value ∙ sym place)
 
 pub returns-in-Front : goal.returns-in-Front
@@ -63,6 +64,6 @@ returns-in-Front c =
     let plain : c.from.result ≡ cqe.res = search rules in
     let set = c.set-in-Front.ensures ∙ ap (with_variable old i c.args.x) (to_z-of_z w64 c.from.result fits ∙ plain) in
     ap (λ a. made P old i (peeks P old i (standing_at old i) c.args.x a)) c.in-Front.is
-    ∙ set_and_gone P old _ c.go-in-Front.new.self i _ _ c.args.x cqe.res old.holders true (Peeked cqe) c.requires.here.exists
-    (ap (λ (k : Controls). record { threads = k.threads; holders = k.holders; peeked = true; pools = k.pools }) (c.self.view_is ∙ set)) c.go-in-Front.ensures
+    ∙ set_and_gone P old _ c.go-in-Front.new.self i _ _ c.args.x cqe.res old.holders InView (Peeked cqe) c.requires.here.exists
+    (ap (λ (k : Controls). record { threads = k.threads; holders = k.holders; look = InView; pools = k.pools }) (c.self.view_is ∙ set)) c.go-in-Front.ensures
     (ap (λ n. n + 1) c.arm_for-arm.ensures.value ∙ sym place)

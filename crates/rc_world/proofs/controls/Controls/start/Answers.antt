@@ -1,4 +1,4 @@
-use Rattle.std.proofs.Common.{◌≡◌, ℕ, ◌≤◌, List, [], ◌∷◌, length, map, pos, replicate, false, refl, sym, ap, ◌∙◌, arith}
+use Rattle.std.proofs.Common.{◌≡◌, ℕ, ◌≤◌, List, [], ◌∷◌, length, map, pos, replicate, refl, sym, ap, ◌∙◌, arith}
 use Rattle.std.specs.Global.{Vec}
 use Rattle.std.proofs.lemmas.List.{length-map}
 use Rattle.rc_lang.specs.declared.program.Thread.{Thread as ThreadPart}
@@ -6,6 +6,7 @@ use Rattle.rc_lang.specs.Parts.{view_names, view_thread}
 use Rattle.rc_lang.specs.Program.{Thread}
 use Rattle.rc_split.specs.Pools.{Pools, empty_pools}
 use Rattle.rc_world.specs.declared.controls.Control.{Control}
+use Rattle.rc_world.specs.declared.controls.Look.TheVariants.{Unseen}
 use Rattle.rc_world.specs.Controls.{Controls, Standing, nobody}
 use Rattle.rc_world.specs.Parts.{view_control}
 use Rattle.rc_world.proofs.controls.Controls.start.Goals as goal
@@ -27,7 +28,7 @@ empty-requires c =
 pub returns-clause-start : goal.returns-clause-start
 returns-clause-start c =
     let first : Control = record { place = 0; variables = replicate 64 (pos 0) } in
-    let controls : List Standing → Pools → Controls = λ ts pools. record { threads = ts; holders = nobody; peeked = false; pools = pools } in
+    let controls : List Standing → Pools → Controls = λ ts pools. record { threads = ts; holders = nobody; look = Unseen; pools = pools } in
     let many = as_many c.pools.result.now c.args.program.now.pools c.pools.ensures.value in
     let e = ap (map view_control) c.in_ok-first_places.ensures ∙ begun first c.threads.result.now ∙ ap (map (λ (t : Thread). view_control first)) c.threads.ensures.value in
     ap (controls _) (c.in_ok-empty.ensures ∙ ap empty_pools many) ∙ ap (λ ts. controls ts (empty_pools (length c.args.program.now.pools))) e

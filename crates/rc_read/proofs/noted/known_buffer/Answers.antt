@@ -3,7 +3,7 @@ use Rattle.rc_lang.specs.Parts.{view_buffer}
 use Rattle.rc_lang.specs.declared.program.Buffer.{Buffer}
 use Rattle.rc_read.specs.declared.noted.Wrong.{Wrong}
 use Rattle.rc_read.proofs.Sizes.{undeclared}
-use Rattle.rc_read.proofs.noted.look_at_buffer.Goals as goal
+use Rattle.rc_read.proofs.noted.known_buffer.Goals as goal
 
 abbrev with_unknown : Wrong → Bool → Wrong
 with_unknown wrong unknown = record wrong { unknown = unknown || wrong.unknown }

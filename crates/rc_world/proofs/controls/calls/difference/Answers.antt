@@ -1,6 +1,6 @@
 use Rattle.std.proofs.Common.{rules}
 use Rattle.std.proofs.lemmas.Int.{wraps}
-use Rattle.rc_world.proofs.controls.difference.Goals as goal
+use Rattle.rc_world.proofs.controls.calls.difference.Goals as goal
 
 pub returns : goal.returns
 returns c = search (rules, wraps)
