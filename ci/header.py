@@ -10,8 +10,8 @@ calls    Each call is logged as the comments of audit/follow-calls.c say, and a 
          the compiler.
 cases    Poison and forced failures are what audit/follow-cases.c says.
 edits    Each wrong header of audit/headers.edits fails `calls` or `cases`.
-runs     The four programs of examples/follow are built with a log, poison and faults, run with N seeds each (10), and
-         PROGRAM follows each log.
+runs     Six programs of examples/follow are built with a log, poison and faults, run with N seeds each (10), and PROGRAM
+         follows each log. file_copy uses what a request brought before its cqe_seen, so it isn't poisoned.
 try      c/ringcheck-try finds planted bugs: by a report, a departure, a run without an end, and a signal; and nothing in a
          correct program.
 
@@ -34,6 +34,7 @@ from edit_files import BUGS, changed_header, changed_program, header_edits
 
 EXAMPLES, AUDIT, HEADER = TOP / "examples" / "follow", TOP / "audit", TOP / "c"
 PROGRAMS = {"wal": 30, "group_commit": 20, "page_writer": 40, "page_cache": 40}
+OTHERS = ("file_copy", "server")  # audit/follow doesn't run them
 STRICT = ["-O1", "-Wall", "-Wextra", "-Wpedantic", "-Werror"]
 LIBRARIES = ["-luring", "-lpthread"]
 POISON = ["-g", "-fsanitize=address", "-DRINGCHECK_POISON"]
@@ -94,7 +95,8 @@ def bare(source):
 def same_code(folder, compilers):
     """Whether the header adds no instruction without flags: included, and by -include."""
     included, to = ["-include", HEADER / "ringcheck.h"], folder / "object"
-    for program, compiler, level in product(PROGRAMS, compilers, ("-O0", "-O2")):
+    programs = (*PROGRAMS, *OTHERS)
+    for program, compiler, level in product(programs, compilers, ("-O0", "-O2")):
         source = (EXAMPLES / f"{program}.c").read_text()
         objects = set()
         for text, more in ((source, []), (bare(source), []), (bare(source), included)):
@@ -103,7 +105,7 @@ def same_code(folder, compilers):
             objects.add(to.read_bytes())
         if len(objects) > 1:
             raise Wrong(f"{program}.c has other object code by {compiler} {level} with the header")
-    return f"{len(PROGRAMS)} programs by {' and '.join(compilers)}, -O0 and -O2: the same object files"
+    return f"{len(programs)} programs by {' and '.join(compilers)}, -O0 and -O2: the same object files"
 
 
 def compiles():
@@ -212,25 +214,39 @@ def file_of(folder, program, seed):
     return path
 
 
+def arguments_of(folder, program, seed):
+    """What a run is called with: by the seed the copied files are longer, and the clients of the server do other things."""
+    if program == "server":
+        return ["12", str(seed)]
+    if program == "file_copy":
+        path = folder / f"from{seed}"
+        path.write_bytes(bytes(range(256)) * 13 * seed + b"end")
+        return [path, folder / f"to{seed}"]
+    return [file_of(folder, program, seed), str(PROGRAMS[program])]
+
+
 def follows_runs(folder, command, seeds):
-    """Runs with forced failures: no report, no hang, and each log is followed."""
-    calls = 0
-    for program, work in PROGRAMS.items():
-        binary = folder / program
-        words = ["gcc", "-std=c11", *STRICT, *LOG, *POISON, *FAULTS, f"-I{HEADER}", f"-fmacro-prefix-map={EXAMPLES}/="]
+    """Runs with forced failures: no report, no hang, a copy is right, and each log is followed."""
+    programs, calls = (*PROGRAMS, *OTHERS), 0
+    for program in programs:
+        binary, poison = folder / program, [] if program == "file_copy" else POISON
+        words = ["gcc", "-std=c11", *STRICT, *LOG, *poison, *FAULTS, f"-I{HEADER}", f"-fmacro-prefix-map={EXAMPLES}/="]
         compiled([*words, EXAMPLES / f"{program}.c", "-o", binary, *LIBRARIES], f"{program}.c")
         logs = [folder / f"{program}.{seed}.log" for seed in range(1, seeds + 1)]
         for seed, log in enumerate(logs, 1):
             environment = dict(os.environ, ASAN_OPTIONS=ASAN, RINGCHECK_SEED=str(seed), RINGCHECK_LOG_FILE=str(log))
-            ran = called([binary, file_of(folder, program, seed), str(work)], env=environment, timeout=60)
+            given = arguments_of(folder, program, seed)
+            ran = called([binary, *given], env=environment, timeout=60)
             if ran.returncode not in (0, 1):
                 raise Wrong(f"{program}, seed {seed}: status {ran.returncode}\n{ran.stderr[:3000]}")
+            if program == "file_copy" and not ran.returncode and given[0].read_bytes() != given[1].read_bytes():
+                raise Wrong(f"{program}, seed {seed}: the copy isn't the file")
         said = called([command, "follow", EXAMPLES / f"{program}.rc", *logs])
         counts = re.findall(r": followed (\d+) calls$", said.stdout, re.M)
         if said.returncode or len(counts) != seeds:
             raise Wrong(f"{program}: {said.stdout[-2000:]}{said.stderr[-500:]}")
         calls += sum(map(int, counts))
-    return f"{len(PROGRAMS)} programs with {seeds} seeds each: no report, and all {calls} calls followed"
+    return f"{len(programs)} programs with {seeds} seeds each: no report, and all {calls} calls followed"
 
 
 def tried(folder, program, text, flags, words):

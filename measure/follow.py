@@ -4,9 +4,9 @@
 usage: measure/follow.py COMMAND.. [--runs N]
 
 COMMAND is what follows a log: it is called as `COMMAND.. MODEL LOG`, as in `measure/follow.py crates/rc_main/out/rc_main
-follow`. Each program of examples/follow runs once on a real io_uring and leaves a log of more than 200,000 lines, which is
-followed N times (20). The slowest, the median and the fastest of these are printed, in lines a second of wall-clock
-time. It needs a C compiler, liburing and a kernel with io_uring.
+follow`. Five programs of examples/follow run once each on a real io_uring and leave a log of more than 200,000 lines,
+which is followed N times (20). The slowest, the median and the fastest of these are printed, in lines a second of
+wall-clock time. It needs a C compiler, liburing and a kernel with io_uring.
 """
 
 import argparse
