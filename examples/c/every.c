@@ -83,13 +83,14 @@ unsigned pool_credits;
 extern int ringcheck_any(void);
 
 #ifdef RINGCHECK_LOG
-/* The buffers that reads fill, by their user data. */
-static const struct filling {
+/* The buffers that reads fill, by their user data, and whether the last request with it was such a read. */
+static struct filling {
     uint64_t data;
     const unsigned char *bytes;
+    bool is_read;
 } fillings[] = {
-    {UINT64_C(1), buffer_b},
-    {0, NULL},
+    {UINT64_C(1), buffer_b, true},
+    {0, NULL, false},
 };
 static FILE *log_file;
 static pthread_mutex_t log_lock = PTHREAD_MUTEX_INITIALIZER;
@@ -122,7 +123,7 @@ static int log_fill(uint64_t data, int moved)
     int at;
 
     for (filling = fillings; filling->bytes != NULL; filling++) {
-        if (filling->data != data || moved <= 0)
+        if (filling->data != data || !filling->is_read || moved <= 0)
             continue;
         for (at = 1; at < moved; at++)
             if (filling->bytes[at] != filling->bytes[0])
@@ -130,6 +131,16 @@ static int log_fill(uint64_t data, int moved)
         return filling->bytes[0];
     }
     return 0;
+}
+
+/* Notes what a request is whose user data doesn't say that. */
+__attribute__((unused)) static void note_request(const struct io_uring_sqe *sqe)
+{
+    struct filling *filling;
+
+    for (filling = fillings; filling->bytes != NULL; filling++)
+        if (filling->data == sqe->user_data)
+            filling->is_read = sqe->opcode == IORING_OP_READ && sqe->addr == (uint64_t)(uintptr_t)filling->bytes;
 }
 
 /* Writes each completion that is in the ring and wasn't seen before, with the byte that fills what it moved. */
@@ -149,9 +160,11 @@ __attribute__((unused)) static void log_completions(void)
 
 #define EVENT(...) log_event(__VA_ARGS__)
 #define SEE_COMPLETIONS() log_completions()
+#define NOTE_REQUEST(sqe) note_request(sqe)
 #else
 #define EVENT(...) ((void)0)
 #define SEE_COMPLETIONS() ((void)0)
+#define NOTE_REQUEST(sqe) ((void)0)
 #endif
 
 /* 14: thread t0 holds a:2 b:1 t:1 t:2 t:3 t:4 t:5 t:6 c:6 { */
@@ -215,6 +228,7 @@ static void *body_t0(void *nothing)
             EVENT("t0 26 prep_read");
             /* 27: set_data64 1 */
             io_uring_sqe_set_data64(sqe, UINT64_C(1));
+            NOTE_REQUEST(sqe);
             EVENT("t0 27 set_data64 1");
         } else { /* 28: } else { */
             /* 29: print y */
@@ -449,44 +463,47 @@ static void *body_t1(void *nothing)
             } /* 100: } */
             /* 101: case 6 { */
             else if (cqe != NULL && cqe->user_data == UINT64_C(6)) {
-                /* 102: cqe_seen */
-                EVENT("t1 102 cqe_seen %" PRIu64, (uint64_t)cqe->user_data);
-                io_uring_cqe_seen(&ring, cqe);
+                /* 102: cqe_get_data64 */
+                EVENT("t1 102 cqe_get_data64 %" PRIu64, (uint64_t)cqe->user_data);
+                io_uring_cqe_get_data64(cqe);
                 /* 103: n = n + 1 */
                 var_n = SUM(var_n, INT64_C(1));
                 EVENT("t1 103 set %" PRId64, var_n);
-            } /* 104: } */
-            /* 105: } */
-        } /* 106: } */
-        EVENT("t1 106 release");
-        MUST(106, pthread_mutex_unlock(&ring_lock));
-        /* 107: if n < 6 { */
+                /* 104: cqe_seen */
+                EVENT("t1 104 cqe_seen %" PRIu64, (uint64_t)cqe->user_data);
+                io_uring_cqe_seen(&ring, cqe);
+            } /* 105: } */
+            /* 106: } */
+        } /* 107: } */
+        EVENT("t1 107 release");
+        MUST(107, pthread_mutex_unlock(&ring_lock));
+        /* 108: if n < 6 { */
         yes = var_n < INT64_C(6);
-        EVENT("t1 107 if %s", yes ? "yes" : "no");
+        EVENT("t1 108 if %s", yes ? "yes" : "no");
         if (yes) {
-            /* 108: if n <= 0 { */
+            /* 109: if n <= 0 { */
             yes = var_n <= INT64_C(0);
-            EVENT("t1 108 if %s", yes ? "yes" : "no");
+            EVENT("t1 109 if %s", yes ? "yes" : "no");
             if (yes) {
-                /* 109: m = m - n */
+                /* 110: m = m - n */
                 var_m = DIFFERENCE(var_m, var_n);
-                EVENT("t1 109 set %" PRId64, var_m);
-            } /* 110: } */
-        } else { /* 111: } else { */
-            /* 112: if n >= 6 { */
+                EVENT("t1 110 set %" PRId64, var_m);
+            } /* 111: } */
+        } else { /* 112: } else { */
+            /* 113: if n >= 6 { */
             yes = var_n >= INT64_C(6);
-            EVENT("t1 112 if %s", yes ? "yes" : "no");
+            EVENT("t1 113 if %s", yes ? "yes" : "no");
             if (yes) {
-                /* 113: break */
-                EVENT("t1 113 break");
+                /* 114: break */
+                EVENT("t1 114 break");
                 break;
-            } /* 114: } */
-        } /* 115: } */
-    } /* 116: } */
+            } /* 115: } */
+        } /* 116: } */
+    } /* 117: } */
     return NULL;
 }
 
-/* 118: thread t2 holds t:4294967295 c:1 { */
+/* 119: thread t2 holds t:4294967295 c:1 { */
 static void *body_t2(void *nothing)
 {
     struct io_uring_sqe *sqe = NULL;
@@ -501,107 +518,107 @@ static void *body_t2(void *nothing)
     (void)var_h;
     (void)var_r;
     (void)var_n;
-    /* 119: h = 1 */
+    /* 120: h = 1 */
     var_h = INT64_C(1);
-    EVENT("t2 119 set %" PRId64, var_h);
-    /* 120: loop keeps when h t:4294967295 c:1 { */
+    EVENT("t2 120 set %" PRId64, var_h);
+    /* 121: loop keeps when h t:4294967295 c:1 { */
     for (;;) {
-        EVENT("t2 120 loop");
-        /* 121: lock { */
-        MUST(121, pthread_mutex_lock(&ring_lock));
-        EVENT("t2 121 lock");
+        EVENT("t2 121 loop");
+        /* 122: lock { */
+        MUST(122, pthread_mutex_lock(&ring_lock));
+        EVENT("t2 122 lock");
         SEE_COMPLETIONS();
         {
-            /* 122: if h != 0 { */
+            /* 123: if h != 0 { */
             yes = var_h != INT64_C(0);
-            EVENT("t2 122 if %s", yes ? "yes" : "no");
+            EVENT("t2 123 if %s", yes ? "yes" : "no");
             if (yes) {
-                /* 123: get_sqe */
+                /* 124: get_sqe */
                 sqe = io_uring_get_sqe(&ring);
                 if (sqe == NULL)
-                    stop(123, "io_uring_get_sqe", 0);
-                EVENT("t2 123 get_sqe");
-                /* 124: prep_nop */
+                    stop(124, "io_uring_get_sqe", 0);
+                EVENT("t2 124 get_sqe");
+                /* 125: prep_nop */
                 io_uring_prep_nop(sqe);
-                EVENT("t2 124 prep_nop");
-                /* 125: set_data64 4294967295 */
+                EVENT("t2 125 prep_nop");
+                /* 126: set_data64 4294967295 */
                 io_uring_sqe_set_data64(sqe, UINT64_C(4294967295));
-                EVENT("t2 125 set_data64 4294967295");
-                /* 126: loop keeps q:1 { */
+                EVENT("t2 126 set_data64 4294967295");
+                /* 127: loop keeps q:1 { */
                 for (;;) {
-                    EVENT("t2 126 loop");
-                    /* 127: r = submit */
+                    EVENT("t2 127 loop");
+                    /* 128: r = submit */
                     var_r = io_uring_submit(&ring);
-                    EVENT("t2 127 submit %" PRId64, var_r);
+                    EVENT("t2 128 submit %" PRId64, var_r);
                     SEE_COMPLETIONS();
-                    /* 128: if sq_ready == 0 { */
+                    /* 129: if sq_ready == 0 { */
                     yes = io_uring_sq_ready(&ring) == 0;
-                    EVENT("t2 128 if %s", yes ? "yes" : "no");
+                    EVENT("t2 129 if %s", yes ? "yes" : "no");
                     if (yes) {
-                        /* 129: break */
-                        EVENT("t2 129 break");
+                        /* 130: break */
+                        EVENT("t2 130 break");
                         break;
-                    } /* 130: } */
-                } /* 131: } */
-                /* 132: h = 0 */
+                    } /* 131: } */
+                } /* 132: } */
+                /* 133: h = 0 */
                 var_h = INT64_C(0);
-                EVENT("t2 132 set %" PRId64, var_h);
-            } else { /* 133: } else { */
-                /* 134: peek_cqe r { */
+                EVENT("t2 133 set %" PRId64, var_h);
+            } else { /* 134: } else { */
+                /* 135: peek_cqe r { */
                 answer = io_uring_peek_cqe(&ring, &cqe);
                 if (answer == 0) {
                     var_r = cqe->res;
                     SEE_COMPLETIONS();
-                    EVENT("t2 134 peek_cqe %" PRIu64 " %" PRId64, (uint64_t)cqe->user_data, var_r);
+                    EVENT("t2 135 peek_cqe %" PRIu64 " %" PRId64, (uint64_t)cqe->user_data, var_r);
                 } else if (answer == -EAGAIN) {
                     cqe = NULL;
                     var_r = -EAGAIN;
-                    EVENT("t2 134 peek_cqe none");
+                    EVENT("t2 135 peek_cqe none");
                     SEE_COMPLETIONS();
                 } else {
-                    stop(134, "io_uring_peek_cqe", answer);
+                    stop(135, "io_uring_peek_cqe", answer);
                 }
-                /* 135: case 4294967295 { */
+                /* 136: case 4294967295 { */
                 if (cqe != NULL && cqe->user_data == UINT64_C(4294967295)) {
-                    /* 136: cqe_seen */
-                    EVENT("t2 136 cqe_seen %" PRIu64, (uint64_t)cqe->user_data);
+                    /* 137: cqe_seen */
+                    EVENT("t2 137 cqe_seen %" PRIu64, (uint64_t)cqe->user_data);
                     io_uring_cqe_seen(&ring, cqe);
-                    /* 137: h = 1 */
+                    /* 138: h = 1 */
                     var_h = INT64_C(1);
-                    EVENT("t2 137 set %" PRId64, var_h);
-                    /* 138: n = n + 1 */
+                    EVENT("t2 138 set %" PRId64, var_h);
+                    /* 139: n = n + 1 */
                     var_n = SUM(var_n, INT64_C(1));
-                    EVENT("t2 138 set %" PRId64, var_n);
-                    /* 139: if n > 2 { */
+                    EVENT("t2 139 set %" PRId64, var_n);
+                    /* 140: if n > 2 { */
                     yes = var_n > INT64_C(2);
-                    EVENT("t2 139 if %s", yes ? "yes" : "no");
+                    EVENT("t2 140 if %s", yes ? "yes" : "no");
                     if (yes) {
-                        /* 140: break */
-                        EVENT("t2 140 break");
-                        MUST(140, pthread_mutex_unlock(&ring_lock));
+                        /* 141: break */
+                        EVENT("t2 141 break");
+                        MUST(141, pthread_mutex_unlock(&ring_lock));
                         break;
-                    } /* 141: } */
-                } /* 142: } */
-                /* 143: other { */
+                    } /* 142: } */
+                } /* 143: } */
+                /* 144: other { */
                 else if (cqe != NULL) {
-                    /* 144: if n == -9223372036854775808 { */
+                    /* 145: if n == -9223372036854775808 { */
                     yes = var_n == INT64_MIN;
-                    EVENT("t2 144 if %s", yes ? "yes" : "no");
+                    EVENT("t2 145 if %s", yes ? "yes" : "no");
                     if (yes) {
-                        /* 145: n = 0 */
+                        /* 146: n = 0 */
                         var_n = INT64_C(0);
-                        EVENT("t2 145 set %" PRId64, var_n);
-                    } /* 146: } */
-                } /* 147: } */
-                /* 148: none { */
+                        EVENT("t2 146 set %" PRId64, var_n);
+                    } /* 147: } */
+                } /* 148: } */
+                /* 149: none { */
                 else if (cqe == NULL) {
-                } /* 149: } */
-                /* 150: } */
-            } /* 151: } */
-        } /* 152: } */
-        EVENT("t2 152 release");
-        MUST(152, pthread_mutex_unlock(&ring_lock));
-    } /* 153: } */
+                } /* 150: } */
+                /* 151: } */
+            } /* 152: } */
+        } /* 153: } */
+        EVENT("t2 153 release");
+        MUST(153, pthread_mutex_unlock(&ring_lock));
+    } /* 154: } */
     return NULL;
 }
 

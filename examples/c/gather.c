@@ -76,12 +76,13 @@ unsigned pool_token_3;
 unsigned pool_credits;
 
 #ifdef RINGCHECK_LOG
-/* The buffers that reads fill, by their user data. */
-static const struct filling {
+/* The buffers that reads fill, by their user data, and whether the last request with it was such a read. */
+static struct filling {
     uint64_t data;
     const unsigned char *bytes;
+    bool is_read;
 } fillings[] = {
-    {0, NULL},
+    {0, NULL, false},
 };
 static FILE *log_file;
 static pthread_mutex_t log_lock = PTHREAD_MUTEX_INITIALIZER;
@@ -114,7 +115,7 @@ static int log_fill(uint64_t data, int moved)
     int at;
 
     for (filling = fillings; filling->bytes != NULL; filling++) {
-        if (filling->data != data || moved <= 0)
+        if (filling->data != data || !filling->is_read || moved <= 0)
             continue;
         for (at = 1; at < moved; at++)
             if (filling->bytes[at] != filling->bytes[0])
@@ -122,6 +123,16 @@ static int log_fill(uint64_t data, int moved)
         return filling->bytes[0];
     }
     return 0;
+}
+
+/* Notes what a request is whose user data doesn't say that. */
+__attribute__((unused)) static void note_request(const struct io_uring_sqe *sqe)
+{
+    struct filling *filling;
+
+    for (filling = fillings; filling->bytes != NULL; filling++)
+        if (filling->data == sqe->user_data)
+            filling->is_read = sqe->opcode == IORING_OP_READ && sqe->addr == (uint64_t)(uintptr_t)filling->bytes;
 }
 
 /* Writes each completion that is in the ring and wasn't seen before, with the byte that fills what it moved. */
@@ -141,9 +152,11 @@ __attribute__((unused)) static void log_completions(void)
 
 #define EVENT(...) log_event(__VA_ARGS__)
 #define SEE_COMPLETIONS() log_completions()
+#define NOTE_REQUEST(sqe) note_request(sqe)
 #else
 #define EVENT(...) ((void)0)
 #define SEE_COMPLETIONS() ((void)0)
+#define NOTE_REQUEST(sqe) ((void)0)
 #endif
 
 /* 10: thread t0 holds page1:1 page2:1 page3:1 t:1 t:2 t:3 c:3 { */

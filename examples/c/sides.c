@@ -83,13 +83,14 @@ static struct table table_free;
 static struct table table_buffer_a;
 
 #ifdef RINGCHECK_LOG
-/* The buffers that reads fill, by their user data. */
-static const struct filling {
+/* The buffers that reads fill, by their user data, and whether the last request with it was such a read. */
+static struct filling {
     uint64_t data;
     const unsigned char *bytes;
+    bool is_read;
 } fillings[] = {
-    {UINT64_C(8), buffer_a},
-    {0, NULL},
+    {UINT64_C(8), buffer_a, true},
+    {0, NULL, false},
 };
 static FILE *log_file;
 static pthread_mutex_t log_lock = PTHREAD_MUTEX_INITIALIZER;
@@ -122,7 +123,7 @@ static int log_fill(uint64_t data, int moved)
     int at;
 
     for (filling = fillings; filling->bytes != NULL; filling++) {
-        if (filling->data != data || moved <= 0)
+        if (filling->data != data || !filling->is_read || moved <= 0)
             continue;
         for (at = 1; at < moved; at++)
             if (filling->bytes[at] != filling->bytes[0])
@@ -130,6 +131,16 @@ static int log_fill(uint64_t data, int moved)
         return filling->bytes[0];
     }
     return 0;
+}
+
+/* Notes what a request is whose user data doesn't say that. */
+__attribute__((unused)) static void note_request(const struct io_uring_sqe *sqe)
+{
+    struct filling *filling;
+
+    for (filling = fillings; filling->bytes != NULL; filling++)
+        if (filling->data == sqe->user_data)
+            filling->is_read = sqe->opcode == IORING_OP_READ && sqe->addr == (uint64_t)(uintptr_t)filling->bytes;
 }
 
 /* Writes each completion that is in the ring and wasn't seen before, with the byte that fills what it moved. */
@@ -149,9 +160,11 @@ __attribute__((unused)) static void log_completions(void)
 
 #define EVENT(...) log_event(__VA_ARGS__)
 #define SEE_COMPLETIONS() log_completions()
+#define NOTE_REQUEST(sqe) note_request(sqe)
 #else
 #define EVENT(...) ((void)0)
 #define SEE_COMPLETIONS() ((void)0)
+#define NOTE_REQUEST(sqe) ((void)0)
 #endif
 
 /* 10: thread t0 holds a:2 t:7 t:8 c:2 { */

@@ -16,7 +16,7 @@ const CHECK_HELP: &str =
 
 Example: ringcheck check examples/*.rc
 
-docs/causes.md explains the codes of refused and unreadable lines (V1 to V19, P1 to P11).";
+docs/causes.md explains the codes of refused and unreadable lines (V1 to V20, P1 to P11).";
 
 /// What is shown after the help of `follow`.
 const FOLLOW_HELP: &str =

@@ -158,7 +158,8 @@ impl Choices<'_> {
             Part::Fixed(word) => self.push(text_of(word), b"", CompletionKind::Form),
             Part::Variable | Part::Flag | Part::Operand => self.push_names(Kind::Variable),
             Part::File => self.push_names(Kind::File),
-            Part::Buffer => self.push_names(Kind::Buffer),
+            Part::Buffer | Part::ReadBuffer => self.push_names(Kind::Buffer),
+            Part::KindWord => self.push_kinds(),
             Part::Token => self.push_names(Kind::Token),
             Part::Pool => self.push_names(Kind::Pool),
             Part::Comparison => self.push_comparisons(),
@@ -217,6 +218,15 @@ impl Choices<'_> {
             meaning_of(row).as_bytes(),
             CompletionKind::Form,
         )
+    }
+
+    /// Adds the words with which kinds of a token begin.
+    fn push_kinds(&mut self) -> Result<(), AllocError> {
+        let words: [&[u8]; 5] = [b"read", b"write", b"fsync", b"nop", b"other"];
+        for word in &words {
+            self.push(word, b"", CompletionKind::Form)?;
+        }
+        Ok(())
     }
 
     /// Adds the comparisons.

@@ -54,6 +54,10 @@ fn part_word(part: Part) -> &'static [u8] {
         Part::Token | Part::NewToken => b"U",
         Part::NewBuffer | Part::NewPool | Part::NewThread => b"NAME",
         Part::Items => b"ITEMS",
+        Part::Kinds => b"KIND or KIND ..",
+        Part::KindWord => b"KIND",
+        Part::ReadBuffer => b"B",
+        Part::WriteShares => b"K",
         Part::HeldShares => b"k",
         Part::HeldToken => b"U",
         Part::Credits => b"m",
@@ -108,6 +112,9 @@ pub fn meaning_of(row: Row) -> &'static str {
         Row::TokenOther => {
             "the user data of another request without a buffer, as a poll or a timeout"
         }
+        Row::TokenKinds => {
+            "the user data of a request of one of up to four kinds, as of a read and then a write"
+        }
         Row::Pool => "a table that threads put items into and take them from",
         Row::Thread => "a thread, and what it holds at its start",
         Row::Set => "sets a variable",
@@ -151,6 +158,16 @@ fn meaning_in_thread(row: Row) -> &'static str {
         }
         Row::SubmitAndWait => {
             "the same as a submit, and waits for m completions: io_uring_submit_and_wait(3)"
+        }
+        row => meaning_in_lock(row),
+    }
+}
+
+/// The same of those that come after a submit, and of blocks.
+fn meaning_in_lock(row: Row) -> &'static str {
+    match row {
+        Row::CqeGetData64 => {
+            "reaps the peeked completion's request before cqe_seen: io_uring_cqe_get_data64(3)"
         }
         Row::CqeSeen => "takes the peeked completion away: io_uring_cqe_seen(3)",
         Row::Peek => {

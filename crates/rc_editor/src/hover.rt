@@ -12,6 +12,9 @@ use rc_read::words::is;
 use rc_report::text::{put_piece, put_pieces};
 use std::alloc::{AllocError, Global};
 
+/// How many kinds a token has at most.
+const MOST_KINDS: usize = 4;
+
 /// What is shown of a word, in lines of plain text, and where the word is.
 #[derive(Drop)]
 pub struct Hover {
@@ -169,18 +172,56 @@ fn put_declared(
     }
 }
 
-/// Adds what a token's request is, by the words of its line.
+/// Adds what a token's request may be, by the words of its line.
 fn put_token(shown: &mut Vec<u8>, words: &Words) -> Result<(), AllocError> {
-    let (kind, buffer) = (words.text(2), words.text(3));
+    let mut between: &[u8] = b": ";
+    let mut place: usize = 2;
+    for _ in 0..MOST_KINDS {
+        if place >= words.count() {
+            break;
+        }
+        put_kind(shown, words, place, between)?;
+        between = b", or ";
+        // The words of a kind are followed by `or`, or by nothing.
+        place = place
+            .saturating_add(words_of(words.text(place)))
+            .saturating_add(1);
+    }
+    Ok(())
+}
+
+/// How many words a kind has that begins with this one.
+fn words_of(kind: &[u8]) -> usize {
+    if is(kind, b"read") {
+        2
+    } else if is(kind, b"write") {
+        3
+    } else {
+        1
+    }
+}
+
+/// Adds a kind, by its words from a place on, after what is between two kinds.
+fn put_kind(
+    shown: &mut Vec<u8>,
+    words: &Words,
+    place: usize,
+    between: &[u8],
+) -> Result<(), AllocError> {
+    let kind = words.text(place);
+    let buffer = words.text(place.saturating_add(1));
     if is(kind, b"read") {
         return put_pieces(
             shown,
-            &[b": a read into ", buffer, b", with all its shares"],
+            &[between, b"a read into ", buffer, b", with all its shares"],
         );
     }
     if is(kind, b"write") {
-        let shares = words.text(4);
-        return put_pieces(shown, &[b": a write of ", buffer, b", shares ", shares]);
+        let shares = words.text(place.saturating_add(2));
+        return put_pieces(
+            shown,
+            &[between, b"a write of ", buffer, b", shares ", shares],
+        );
     }
-    put_pieces(shown, &[b": ", kind])
+    put_pieces(shown, &[between, kind])
 }

@@ -2,6 +2,7 @@
 
 use crate::words::{Word, Words};
 use rc_hints::fitting::{forms_of, items_in_front, reach_of};
+use rc_read::kinds::part_after;
 use rc_read::parts::Region;
 use rc_read::spots::put_spots;
 use rc_read::table::{Part, Row, parts_of};
@@ -91,7 +92,7 @@ fn kind_of(part: Part) -> Option<(Kind, bool)> {
     match part {
         Part::Variable | Part::Flag | Part::Operand => Some((Kind::Variable, false)),
         Part::File => Some((Kind::File, false)),
-        Part::Buffer => Some((Kind::Buffer, false)),
+        Part::Buffer | Part::ReadBuffer => Some((Kind::Buffer, false)),
         Part::Token => Some((Kind::Token, false)),
         Part::Pool => Some((Kind::Pool, false)),
         Part::NewFile => Some((Kind::File, true)),
@@ -216,8 +217,28 @@ pub fn push_marks<'a>(
         if at >= fit.words {
             return Ok(());
         }
+        if let Part::Kinds = *part {
+            return push_kinds(marks, here, words, at, fit.words);
+        }
         at = push_at(marks, here, words, *part, at, gives)?;
         gives = gives && !matches!(part, Part::Variable);
+    }
+    Ok(())
+}
+
+/// Adds the names of buffers in kinds of a token, which are the words from one to another.
+fn push_kinds<'a>(
+    marks: &mut Vec<Mark<'a>>,
+    here: LineAt,
+    words: &Words<'a>,
+    first: usize,
+    end: usize,
+) -> Result<(), AllocError> {
+    let mut part = Part::KindWord;
+    for at in first..end {
+        let word = words.word(at);
+        push_part(marks, here, part, word, false)?;
+        part = part_after(part, word.text);
     }
     Ok(())
 }

@@ -4,7 +4,7 @@ use crate::fixed::{LOCK_OPENED, MUTEX_OPENED};
 use crate::locks::Guards;
 use crate::terms::{data, number};
 use rc_lang::lines::{Stmt, Test};
-use rc_lang::program::{Program, Thread, TokenKind};
+use rc_lang::program::{Program, Thread, Token, TokenKind};
 use rc_text::names::buffer_name;
 use rc_text::text::{put_piece, put_pieces};
 use std::alloc::AllocError;
@@ -45,10 +45,11 @@ extern int ringcheck_any(void);
 
 const FILLINGS: &str = "
 #ifdef RINGCHECK_LOG
-/* The buffers that reads fill, by their user data. */
-static const struct filling {
+/* The buffers that reads fill, by their user data, and whether the last request with it was such a read. */
+static struct filling {
     uint64_t data;
     const unsigned char *bytes;
+    bool is_read;
 } fillings[] = {
 ";
 
@@ -202,14 +203,38 @@ fn has_any(thread: &Thread) -> bool {
 fn put_fillings(text: &mut Vec<u8>, program: &Program) -> Result<(), AllocError> {
     put_piece(text, FILLINGS.as_bytes())?;
     for token in program.tokens() {
-        if let TokenKind::Read(buffer) = token.kind {
-            put_filling(text, token.user_data, buffer_name(program, buffer))?;
-        }
+        put_filling(text, program, token.user_data, Some(token.kind))?;
+        put_other_fillings(text, program, *token)?;
     }
-    put_piece(text, b"    {0, NULL},\n};\n")
+    put_piece(text, b"    {0, NULL, false},\n};\n")
 }
 
-fn put_filling(text: &mut Vec<u8>, user_data: u64, buffer: &[u8]) -> Result<(), AllocError> {
+/// Adds the same of the other kinds of a token.
+fn put_other_fillings(
+    text: &mut Vec<u8>,
+    program: &Program,
+    token: Token,
+) -> Result<(), AllocError> {
+    for kind in &token.others {
+        put_filling(text, program, token.user_data, *kind)?;
+    }
+    Ok(())
+}
+
+/// Adds the buffer that a request fills, if it is a read.
+fn put_filling(
+    text: &mut Vec<u8>,
+    program: &Program,
+    user_data: u64,
+    kind: Option<TokenKind>,
+) -> Result<(), AllocError> {
+    let Some(TokenKind::Read(buffer)) = kind else {
+        return Ok(());
+    };
     let user_data = data(*text.allocator(), user_data)?;
-    put_pieces(text, &[b"    {", &user_data, b", buffer_", buffer, b"},\n"])
+    let buffer = buffer_name(program, buffer);
+    put_pieces(
+        text,
+        &[b"    {", &user_data, b", buffer_", buffer, b", true},\n"],
+    )
 }

@@ -5,6 +5,7 @@ use crate::locks::put_seen_after_submit;
 use crate::place::Place;
 use crate::variables::is_variable;
 use rc_lang::lines::{Op, Operand};
+use rc_lang::program::Program;
 use rc_text::text::put_pieces;
 use std::alloc::AllocError;
 
@@ -33,6 +34,7 @@ pub fn put_op(text: &mut Vec<u8>, place: Place<'_>, op: Op) -> Result<(), AllocE
         Op::SetData64(data) => put_set_data(text, place, data),
         Op::Submit(x) => put_submit(text, place, x),
         Op::SubmitAndWait(x, count) => put_submit_and_wait(text, place, x, count),
+        Op::CqeGetData64 => put_cqe_get_data(text, place),
         Op::CqeSeen => put_cqe_seen(text, place),
     }
 }
@@ -222,7 +224,27 @@ fn put_set_data(text: &mut Vec<u8>, place: Place<'_>, data: u64) -> Result<(), A
         place,
         &[b"io_uring_sqe_set_data64(sqe, ", &term, b");"],
     )?;
+    put_noted(text, place, data)?;
     put_event(text, place, &[b"set_data64 ", &digits, b"\""])
+}
+
+/// Adds that what the request is gets noted for the log, where its user data doesn't say that.
+fn put_noted(text: &mut Vec<u8>, place: Place<'_>, data: u64) -> Result<(), AllocError> {
+    if has_kinds(place.program, data) {
+        put_line(text, place, &[b"NOTE_REQUEST(sqe);"])
+    } else {
+        Ok(())
+    }
+}
+
+/// Whether the token with this user data has several kinds.
+fn has_kinds(program: &Program, data: u64) -> bool {
+    for token in program.tokens() {
+        if token.user_data == data {
+            return token.others[0].is_some();
+        }
+    }
+    false
 }
 
 /// Adds a submit.
@@ -253,6 +275,16 @@ fn put_submit_and_wait(
 fn put_submitted(text: &mut Vec<u8>, place: Place<'_>, x: &[u8]) -> Result<(), AllocError> {
     put_event(text, place, &[b"submit %\" PRId64, ", x])?;
     put_seen_after_submit(text, place)
+}
+
+/// Adds that the user data of the peeked completion is got.
+fn put_cqe_get_data(text: &mut Vec<u8>, place: Place<'_>) -> Result<(), AllocError> {
+    put_event(
+        text,
+        place,
+        &[b"cqe_get_data64 %\" PRIu64, (uint64_t)cqe->user_data"],
+    )?;
+    put_line(text, place, &[b"io_uring_cqe_get_data64(cqe);"])
 }
 
 /// Adds that the peeked completion is taken away.

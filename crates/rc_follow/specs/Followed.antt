@@ -82,7 +82,8 @@ is_empty (r ∷ rs) = false
 abbrev pub may_lock : Noted → ℕ → Locks → Bool
 may_lock n i wanted = has_mutexes n i wanted || n.alone
 
--- A submit takes nothing where nothing is queued; other calls than a peek that finds nothing are no hidden steps.
+-- A submit takes nothing where nothing is queued. Of the other calls a peek that finds nothing is a hidden step, and so is
+-- `cqe_get_data64`, which no log has.
 abbrev pub is_hidden_action : Noted → World → ℕ → Action → Bool
 is_hidden_action n w i (action.Locked wanted) = may_lock n i wanted
 is_hidden_action n w i (action.Submitted r) = int_eq r (pos 0) && is_empty w.queued
@@ -102,6 +103,7 @@ is_hidden_action n w i (action.Filled b) = true
 is_hidden_action n w i (action.Printed v) = true
 is_hidden_action n w i (action.Released released) = true
 is_hidden_action n w i action.PeekedNone = true
+is_hidden_action n w i (action.DataGot u) = true
 is_hidden_action n w i (action.Branched b) = true
 is_hidden_action n w i action.Looped = true
 is_hidden_action n w i action.LoopLeft = true
@@ -242,9 +244,9 @@ cq_alone = record { sq = false; cq = true }
 abbrev pub holds_none : World → ℕ → Locks → Bool
 holds_none w i released = not (released.sq && is_holder w.controls.holders.sq i) && not (released.cq && is_holder w.controls.holders.cq i)
 
--- how many requests submits took that aren't reaped
+-- how many requests submits took whose completions aren't taken away
 abbrev pub requests_out : World → ℕ
-requests_out w = length w.pending + length w.completed
+requests_out w = length w.pending + length w.completions
 
 abbrev pub Asks : Program → Noted → World → ℕ → Call → Type 0
 Asks P n w i PeekNone = (has_mutexes n i cq_alone ≡ true)

@@ -5,6 +5,7 @@ use crate::reads::Reads;
 use rc_lang::program::Program;
 use rc_lang::request::Request;
 use rc_split::pool::Pool;
+use rc_world::controls::Look;
 use rc_world::world::{Slot, World};
 
 /// Whether two worlds of the same program are alike.
@@ -24,6 +25,7 @@ fn hold_alike(reads: &Reads, one: &World<'_>, other: &World<'_>) -> bool {
         && slots_alike(one.slot(), other.slot())
         && lists_alike(one.queued(), other.queued())
         && one.completions() == other.completions()
+        && looks_alike(one.look(), other.look())
         && pending_alike(one, other)
         && reads.are_same(one, other)
         && pools_alike(one, other)
@@ -37,6 +39,14 @@ fn stand_alike(but: Option<u32>, one: &World<'_>, other: &World<'_>) -> bool {
         }
     }
     true
+}
+
+/// Whether the same was done with the front completion: where it is got, its request is reaped.
+fn looks_alike(one: Look, other: Look) -> bool {
+    matches!(
+        (one, other),
+        (Look::Unseen, Look::Unseen) | (Look::Peeked, Look::Peeked) | (Look::Got, Look::Got)
+    )
 }
 
 fn slots_alike(one: Slot, other: Slot) -> bool {

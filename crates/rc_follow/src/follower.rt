@@ -142,12 +142,14 @@ impl<'a> Follower<'a> {
         self.reached.get(number as usize).copied().unwrap_or(false)
     }
 
-    /// How many requests submits took that aren't reaped, on the first way that is left.
+    /// How many requests submits took whose completions aren't taken away, on the first way that is left.
     pub fn requests_out(&self) -> usize {
         match self.worlds.first() {
             Some(node) => {
                 let world = node.world();
-                world.pending_len().saturating_add(world.completed().len())
+                world
+                    .pending_len()
+                    .saturating_add(world.completions().len())
             }
             None => 0,
         }

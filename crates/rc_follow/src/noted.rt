@@ -164,6 +164,7 @@ impl Noted {
             Action::Printed(_) => true,
             Action::Released(_) => true,
             Action::PeekedNone => true,
+            Action::DataGot(_) => true,
             Action::Branched(_) => true,
             Action::Looped => true,
             Action::LoopLeft => true,

@@ -228,7 +228,8 @@ fn is_plain(stmt: Stmt) -> bool {
             | Op::Subtract(_, _, _)
             | Op::Store(_, _, _)
             | Op::Fill(_, _)
-            | Op::Print(_),
+            | Op::Print(_)
+            | Op::CqeGetData64,
         ) => true,
         Stmt::If(Test::Compare(_, _, _) | Test::ReadyZero | Test::SpaceAtLeast(_)) => true,
         Stmt::Loop(_) | Stmt::EndLock(_, _) | Stmt::Break(_, _, _) => true,

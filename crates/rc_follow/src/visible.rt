@@ -54,12 +54,12 @@ pub fn asks(noted: &Noted, node: &Node<'_>, thread: u32, call: Call) -> bool
     }
 }
 
-/// Whether so many requests are out: submits took them, and they aren't reaped.
+/// Whether so many requests are out: submits took them, and their completions aren't taken away.
 fn has_out(world: &World<'_>, count: usize) -> bool
     ensures { result ≡ true → spec.requests_out world.now ≡ count }
 {
     match count.checked_sub(world.pending_len()) {
-        Some(rest) => rest == world.completed().len(),
+        Some(rest) => rest == world.completions().len(),
         None => false,
     }
 }

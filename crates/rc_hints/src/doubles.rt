@@ -8,7 +8,7 @@ use crate::wording::put_framed;
 use rc_read::parts::Parts;
 use rc_read::table::Part;
 use rc_read::words::is;
-use rc_text::text::put_pieces;
+use rc_text::text::{put_piece, put_pieces};
 use std::alloc::AllocError;
 
 /// What a place declares that is declared already.
@@ -46,6 +46,49 @@ fn repeats(before: &[Place], place: &Place) -> bool {
     found
 }
 
+/// Whether two words of a line begin kinds of one word, and of one buffer where they have one.
+fn are_one_kind(words: &[&[u8]], at: usize, other: usize) -> bool {
+    let word = word_at(words, at);
+    let has_buffer = is(word, b"read") || is(word, b"write");
+    let buffer = word_at(words, at.saturating_add(1));
+    let other_buffer = word_at(words, other.saturating_add(1));
+    is(word, word_at(words, other)) && (!has_buffer || is(buffer, other_buffer))
+}
+
+/// Whether two places of a line begin kinds, and the same one.
+fn begin_one_kind(words: &[&[u8]], place: &Place, other: &Place) -> bool {
+    match (place.part, other.part) {
+        (Part::KindWord, Part::KindWord) => are_one_kind(words, place.at, other.at),
+        _ => false,
+    }
+}
+
+/// Whether a place begins a kind that one before it begins, too.
+fn repeats_kind(before: &[Place], place: &Place, words: &[&[u8]]) -> bool {
+    for other in before {
+        if begin_one_kind(words, place, other) {
+            return true;
+        }
+    }
+    false
+}
+
+/// Adds that a kind of a token is one that it has already.
+fn put_kind_again(
+    hint: &mut Hint,
+    line: &[u8],
+    place: &Place,
+    words: &[&[u8]],
+) -> Result<(), AllocError> {
+    hint.column = Some(column_of(line, place.at));
+    let text = &mut hint.words;
+    put_framed(text, b"'", place.word, b"")?;
+    if is(place.word, b"read") || is(place.word, b"write") {
+        put_framed(text, b" ", word_at(words, place.at.saturating_add(1)), b"")?;
+    }
+    put_piece(text, b"' is a kind of this token already")
+}
+
 /// Adds that an item names again what an earlier one does.
 fn put_again(hint: &mut Hint, line: &[u8], place: &Place, item: &[u8]) -> Result<(), AllocError> {
     hint.column = Some(column_of(line, place.at));
@@ -80,8 +123,12 @@ pub fn put_double_name(
         }
     }
     for i in 0..places.len() {
-        if repeats(&places[..i], &places[i]) {
-            return put_again(hint, line, &places[i], word_at(words, places[i].at));
+        let (before, place) = (&places[..i], &places[i]);
+        if repeats(before, place) {
+            return put_again(hint, line, place, word_at(words, place.at));
+        }
+        if repeats_kind(before, place, words) {
+            return put_kind_again(hint, line, place, words);
         }
     }
     Ok(())

@@ -1,12 +1,16 @@
 //! How far the words of a line fit a form.
 
 use crate::lines::{between, from, place_of};
+use rc_read::kinds::part_after;
 use rc_read::parts::Region;
 use rc_read::reserved::is_reserved_by;
 use rc_read::spots::{fits, has_name};
 use rc_read::table::{Part, Row, Stand, assignments, parts_of, rows_of, stand_of, version_of};
 use rc_read::words::{is, is_name, is_spelt};
 use std::alloc::{AllocError, Global};
+
+/// How many kinds a token has at most.
+const MOST_KINDS: usize = 4;
 
 /// Whether a form may be in this part of a model of this version.
 pub fn may_be(version: u32, region: Region, row: Row) -> bool {
@@ -73,6 +77,32 @@ pub fn items_in_front(version: u32, words: &[&[u8]]) -> usize {
     first.unwrap_or(words.len())
 }
 
+/// The part after so many kinds of a token, after a part of the last of them: the line ends after the fourth.
+fn part_after_kinds(count: usize, part: Part) -> Option<Part> {
+    match part {
+        Part::Fixed(_) if count >= MOST_KINDS => None,
+        part => Some(part),
+    }
+}
+
+/// How many words of kinds of this version are in front, and which part could be after them. After a whole kind the line
+/// may end, too.
+pub fn kinds_in_front(version: u32, words: &[&[u8]]) -> (usize, Option<Part>) {
+    let mut part = Part::KindWord;
+    let mut kinds: usize = 0;
+    for (at, word) in words.iter().enumerate() {
+        let Some(next) = part_after_kinds(kinds, part) else {
+            return (at, None);
+        };
+        if !is_in(version, next, word) {
+            return (at, Some(next));
+        }
+        kinds = kinds.saturating_add(usize::from(matches!(next, Part::KindWord)));
+        part = part_after(next, word);
+    }
+    (words.len(), part_after_kinds(kinds, part))
+}
+
 /// How many words fit a form, from the left, which part could be after them, and whether items could.
 #[derive(Clone, Copy)]
 pub struct Reach {
@@ -90,6 +120,14 @@ pub fn reach_of(version: u32, row: Row, words: &[&[u8]]) -> Reach {
             at = at.saturating_add(items_in_front(version, from(words, at)));
             items = true;
             continue;
+        }
+        if let Part::Kinds = *part {
+            let (count, next) = kinds_in_front(version, from(words, at));
+            return Reach {
+                words: at.saturating_add(count),
+                next,
+                items,
+            };
         }
         match from(words, at) {
             [word, ..] if is_in(version, *part, word) => {}

@@ -7,7 +7,8 @@ use crate::near::{Nearest, nearer, none_near};
 use crate::ranges::thing_of;
 use crate::slips::put_slip;
 use crate::wording::{put_framed, put_word};
-use rc_read::fixed::text_of;
+use rc_read::fixed::{Word, text_of};
+use rc_read::kinds::count_or;
 use rc_read::parts::Parts;
 use rc_read::spots::{fits, has_name, put_spots};
 use rc_read::table::{Part, Row, Stand, parts_of, rows_of, stand_of, version_of};
@@ -40,6 +41,7 @@ fn choice_of(next: Option<Part>) -> Choice {
         },
         Part::Variable | Part::Flag => named(b"a variable"),
         Part::Buffer | Part::NewBuffer | Part::NewThread => named(b"a name"),
+        Part::ReadBuffer => named(b"a name"),
         Part::Pool | Part::NewPool => named(b"a name"),
         Part::Operand => named(b"a variable or a number"),
         Part::Comparison => named(b"a comparison"),
@@ -56,6 +58,22 @@ struct Choices {
 }
 
 impl Choices {
+    /// Adds what could be in the place of a part, or that the line could end.
+    fn add_next(&mut self, next: Option<Part>) -> Result<(), AllocError> {
+        match next {
+            Some(Part::KindWord) => self.add_kinds(),
+            next => self.add(choice_of(next)),
+        }
+    }
+
+    /// Adds the words with which kinds of a token begin.
+    fn add_kinds(&mut self) -> Result<(), AllocError> {
+        for word in &[Word::Read, Word::Write, Word::Fsync, Word::Nop, Word::Other] {
+            self.add(choice_of(Some(Part::Fixed(*word))))?;
+        }
+        Ok(())
+    }
+
     /// Adds a choice that isn't there yet.
     fn add(&mut self, choice: Choice) -> Result<(), AllocError> {
         if !self.list.iter().any(|other| is(other.text, choice.text)) {
@@ -80,7 +98,7 @@ fn choices_at(
     for row in forms {
         let reach = reach_of(version, *row, words);
         if reach.words == most {
-            choices.add(choice_of(reach.next))?;
+            choices.add_next(reach.next)?;
             choices.named |= reach.next.is_some_and(has_name);
             if reach.items {
                 choices.add(named(b"items"))?;
@@ -212,6 +230,9 @@ fn put_longest(
         put_piece(text, b", found the end of the line")?;
     }
     put_framed(text, b" after '", before, b"'")?;
+    if is(word, b"or") && count_or(words) > 3 {
+        put_piece(text, b"; a token has at most four kinds")?;
+    }
     if choices.named || !is_reserved(version, word) {
         put_spelling(text, version, word)?;
     }

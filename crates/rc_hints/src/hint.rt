@@ -4,7 +4,7 @@ use crate::doubles::put_double_name;
 use crate::forms::{needed_version, put_form};
 use crate::lines::word_at;
 use crate::locks::put_fix;
-use crate::names::put_unknown_name;
+use crate::names::{has_token, put_unknown_name};
 use crate::others::{
     has_two_locks, put_braces, put_case, put_flag, put_head, put_nesting, put_strange,
     put_too_large,
@@ -12,6 +12,7 @@ use crate::others::{
 use crate::places::places_of;
 use crate::ranges::put_bad_number;
 use rc_read::ReadCause;
+use rc_read::kinds::count_or;
 use rc_read::parts::Parts;
 use rc_read::words::{is, put_words};
 use rc_text::text::{put_counted, put_piece};
@@ -92,11 +93,24 @@ fn fix_line(
 ) -> Result<(), AllocError> {
     match cause {
         ReadCause::BadLine => put_version(fix, above, words),
+        ReadCause::DoubleName => put_fewer_kinds(fix, words, above),
         ReadCause::BadNesting if has_two_locks(above) && is(word_at(words, 0), b"lock") => {
             put_fix(fix, above, words)
         }
         _ => Ok(()),
     }
+}
+
+/// Adds what to write where a token names a kind twice.
+fn put_fewer_kinds(fix: &mut Vec<u8>, words: &[&[u8]], above: &Parts) -> Result<(), AllocError> {
+    let has_kinds = is(word_at(words, 0), b"token") && count_or(words) > 0;
+    if !has_kinds || has_token(above, word_at(words, 1)) {
+        return Ok(());
+    }
+    put_piece(
+        fix,
+        b"Leave the second out: no two kinds of a token have one word and one buffer.",
+    )
 }
 
 /// Adds with which version a model is to begin that has a form of a later one.

@@ -133,7 +133,9 @@ pub fn word_of(kind: Kind) -> &'static [u8] {
 fn unknown_at(parts: &Parts, place: Place) -> Option<Kind> {
     match place.part {
         Part::File => (!has_file(parts, place.word)).then_some(Kind::File),
-        Part::Buffer => (!has_buffer(parts, place.word)).then_some(Kind::Buffer),
+        Part::Buffer | Part::ReadBuffer => {
+            (!has_buffer(parts, place.word)).then_some(Kind::Buffer)
+        }
         Part::Token | Part::HeldToken => (!has_token(parts, place.word)).then_some(Kind::Token),
         Part::Pool => (!has_pool(parts, place.word)).then_some(Kind::Pool),
         _ => None,

@@ -4,6 +4,7 @@ use crate::fitting::items_in_front;
 use crate::lines::{column_of, from, word_at};
 use rc_read::spots::{Spot, put_spots};
 use rc_read::table::{Part, parts_of};
+use rc_read::words::is;
 use std::alloc::{AllocError, Global};
 
 /// A word in its place: in which word of the line it is, and from which byte of that on.
@@ -46,6 +47,15 @@ fn push_word<'a>(
     Ok(spots.len())
 }
 
+/// Whether a word of a part is in a place of its own: a fixed word isn't, nor is `or` between kinds.
+fn has_spot(part: Part, word: &[u8]) -> bool {
+    match part {
+        Part::Fixed(_) => false,
+        Part::Kinds => !is(word, b"or"),
+        _ => true,
+    }
+}
+
 /// The places of a line that has a form of this version.
 pub fn places_of<'a>(
     alloc: Global,
@@ -62,11 +72,13 @@ pub fn places_of<'a>(
     for part in parts_of(row) {
         let count = match part {
             Part::Items => items_in_front(version, from(words, at)),
+            Part::Kinds => from(words, at).len(),
             _ => 1,
         };
         for _ in 0..count {
-            if !matches!(part, Part::Fixed(_)) {
-                next = push_word(&mut places, &spots, next, word_at(words, at), at)?;
+            let word = word_at(words, at);
+            if has_spot(*part, word) {
+                next = push_word(&mut places, &spots, next, word, at)?;
             }
             at = at.saturating_add(1);
         }

@@ -1,4 +1,5 @@
 pub mod Blanks
 pub mod Lists
 pub mod Logs
+pub mod Others
 pub mod Readers

@@ -8,6 +8,7 @@ use Rattle.rc_lang.specs.declared.program.File.{File}
 use Rattle.rc_lang.specs.declared.program.Token.{Token}
 use Rattle.rc_lang.specs.declared.program.TokenKind.{TokenKind}
 use Rattle.rc_lang.specs.declared.program.TokenKind.TheVariants as kind
+use Rattle.rc_lang.specs.Kinds.{kinds_in}
 use Rattle.rc_lang.specs.Locks.{both_locks}
 use Rattle.rc_lang.specs.Names.{all_name_bytes, is_lower}
 use Rattle.rc_lang.specs.Numbers.{number_of, signed_number_of}
@@ -165,9 +166,13 @@ abbrev pub is_other : TokenKind → Bool
 is_other kind.Other = true
 is_other _ = false
 
+-- One of the token's kinds is that of another request.
+abbrev pub may_be_other : Token → Bool
+may_be_other t = list_any is_other (kinds_in t)
+
 -- A program without a token for another request makes none.
 abbrev pub prep_other : Program → Call
-prep_other p = if list_any (λ (t : Token). is_other t.kind) p.tokens then PrepOther else Foreign NoSuchRequest
+prep_other p = if list_any may_be_other p.tokens then PrepOther else Foreign NoSuchRequest
 
 -- `set_data64 TOKEN` and `cqe_seen TOKEN`; `sq_ready N`, `sq_space_left N` and `exit N`
 abbrev pub of_token : (ℕ → Call) → List (List ℕ) → Option Call

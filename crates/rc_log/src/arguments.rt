@@ -3,6 +3,7 @@
 ghost use Rattle.std.specs.Prelude.{◌≡◌, option_map};
 ghost use Rattle.std.specs.List.{list_any};
 ghost use Rattle.rc_log.specs.Cuts.{words_after};
+ghost use Rattle.rc_log.specs.Others.{is_some_other};
 ghost use Rattle.rc_log.specs.Said as spec;
 
 use crate::call::{Call, Lack};
@@ -113,17 +114,26 @@ pub fn of_byte(call: Call, rest: &[u8]) -> Option<Call>
     Some(call)
 }
 
-// Whether one of the tokens is for another request.
+// Whether one of the tokens may be for another request.
 fn has_other(tokens: &[Token]) -> bool
-    ensures { result ≡ list_any (λ t. spec.is_other t.kind) tokens.now }
+    ensures { result ≡ list_any spec.may_be_other tokens.now }
 {
-    tokens.iter().any(|token| is_other(token.kind))
+    tokens.iter().any(|token| may_be_other(*token))
 }
 
-fn is_other(kind: TokenKind) -> bool
-    ensures { result ≡ spec.is_other kind }
+// Whether one of the kinds of a token is that of another request.
+#[tactic(auto, using(crate::proofs::Others::any_other))]
+fn may_be_other(token: Token) -> bool
+    ensures { result ≡ spec.may_be_other token }
 {
-    matches!(kind, TokenKind::Other)
+    is_other(Some(token.kind)) || token.others.iter().any(|kind| is_other(*kind))
+}
+
+// Whether a kind is that of another request, where there is one.
+fn is_other(kind: Option<TokenKind>) -> bool
+    ensures { result ≡ is_some_other kind }
+{
+    matches!(kind, Some(TokenKind::Other))
 }
 
 /// `prep_other OPCODE`.

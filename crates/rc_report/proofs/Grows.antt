@@ -3,7 +3,7 @@ use Rattle.std.proofs.Common.{◌≡◌, ℕ, ◌+◌, ◌≤◌, Bool, true, fa
 use Rattle.std.specs.Prelude.{slice_get}
 use Rattle.rc_lang.specs.declared.lines.Line.{Line}
 use Rattle.rc_lang.specs.declared.lines.Op.{Op}
-use Rattle.rc_lang.specs.declared.lines.Op.TheVariants.{Set, Assign, Add, Subtract, Load, Store, Fill, Print, GetSqe, PrepRead, PrepWrite, PrepFsync, PrepNop, PrepOther, SetData64, Submit, SubmitAndWait, CqeSeen}
+use Rattle.rc_lang.specs.declared.lines.Op.TheVariants.{Set, Assign, Add, Subtract, Load, Store, Fill, Print, GetSqe, PrepRead, PrepWrite, PrepFsync, PrepNop, PrepOther, SetData64, Submit, SubmitAndWait, CqeGetData64, CqeSeen}
 use Rattle.rc_lang.specs.declared.lines.Stmt.{Stmt}
 use Rattle.rc_lang.specs.declared.lines.Stmt.TheVariants.{Do, Put, Lock, EndLock, If, Else, EndIf, Peek, Case, Other, Nothing, EndArm, EndPeek, Loop, EndLoop, Break}
 use Rattle.rc_lang.specs.declared.request.Request.{Request}
@@ -15,7 +15,7 @@ use Rattle.rc_world.specs.declared.world.Slot.{Slot}
 use Rattle.rc_world.specs.declared.world.Slot.TheVariants.{Closed, Vacant, Prepared}
 use Rattle.rc_world.specs.Controls.{Controls, Standing, controls_step, next_line}
 use Rattle.rc_world.specs.Items.{given_at, item_bytes, item_step, kernel_item, pending_place}
-use Rattle.rc_world.specs.Machine.{Pending, World, all_begin, begins, count_in, fills, given_back, hands_over, in_rings, kernel_event, kernel_step_of, op_in_rings, opens_entry, prepares, queues, reaps_front, stmt_answer, stores, submits_by, thread_step_at, with_controls}
+use Rattle.rc_world.specs.Machine.{Pending, World, all_begin, begins, count_in, fills, gets_front, given_back, hands_over, in_rings, kernel_event, kernel_step_of, op_in_rings, opens_entry, prepares, queues, reaps_front, stmt_answer, stores, submits_by, thread_step_at, with_controls}
 
 pub record Grows (w next : World) : Type 0 where
   pub program : next.program ≡ w.program
@@ -77,6 +77,10 @@ submits_grow w r =
     let both = all_begin_same (record w { queued = drop (count_in r) w.queued }) (take (count_in r) w.queued) in
     where_true w _ _ (same w (hands_over w (count_in r)) both.0 both.1)
 
+gets_grow : (w : World) (cs : List Completion) → IfWorld w (gets_front w cs)
+gets_grow w [] = tt
+gets_grow w (c ∷ cs) = same w _ refl refl
+
 reaps_grow : (w : World) (cs : List Completion) → IfWorld w (reaps_front w cs)
 reaps_grow w [] = tt
 reaps_grow w (c ∷ cs) = same w _ refl refl
@@ -99,6 +103,7 @@ op_grows w t r PrepOther = prepares_grow w _ w.slot
 op_grows w t r (SetData64 u) = queues_grow w u w.slot
 op_grows w t r (Submit x) = submits_grow w r
 op_grows w t r (SubmitAndWait x n) = submits_grow w r
+op_grows w t r CqeGetData64 = gets_grow w w.completions
 op_grows w t r CqeSeen = reaps_grow w w.completions
 
 rings_grow : (w : World) (t : Standing) (r : ℤ) (s : Stmt) → IfWorld w (in_rings w t r s)

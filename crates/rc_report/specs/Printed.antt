@@ -4,7 +4,7 @@ use Rattle.std.specs.Fmt.{signed_decimal}
 use Rattle.std.specs.List.{flat_map}
 use Rattle.rc_lang.specs.Program.{Program}
 use Rattle.rc_world.specs.declared.event.Action.{Action}
-use Rattle.rc_world.specs.declared.event.Action.TheVariants.{VariableSet, Loaded, Stored, Filled, Printed, Locked, Released, EntryOpened, ReadPrepared, WritePrepared, FsyncPrepared, NopPrepared, OtherPrepared, DataSet, Submitted, Peeked, PeekedNone, Reaped, ItemsPut, Branched, Looped, LoopLeft}
+use Rattle.rc_world.specs.declared.event.Action.TheVariants.{VariableSet, Loaded, Stored, Filled, Printed, Locked, Released, EntryOpened, ReadPrepared, WritePrepared, FsyncPrepared, NopPrepared, OtherPrepared, DataSet, Submitted, Peeked, PeekedNone, DataGot, Reaped, ItemsPut, Branched, Looped, LoopLeft}
 use Rattle.rc_world.specs.declared.event.Completion.{Completion}
 use Rattle.rc_world.specs.declared.event.Event.{Event}
 use Rattle.rc_world.specs.declared.event.Event.TheVariants.{ByThread, ByKernel}
@@ -45,6 +45,7 @@ action_text (DataSet u) = valued (codes " set_data64 ") (decimal u)
 action_text (Submitted r) = valued (codes " submit ") (signed_decimal r)
 action_text (Peeked c) = valued (codes " peek_cqe ") (completion_text c)
 action_text PeekedNone = codes " peek_cqe none"
+action_text (DataGot u) = valued (codes " cqe_get_data64 ") (decimal u)
 action_text (Reaped u) = valued (codes " cqe_seen ") (decimal u)
 action_text ItemsPut = codes " put"
 action_text (Branched true) = codes " if yes"

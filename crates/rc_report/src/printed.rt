@@ -104,6 +104,7 @@ fn words_of<'a>(action: Action, first: &'a mut Buffer, second: &'a mut Buffer) -
         Action::Submitted(answer) => valued(b" submit ", first.format(answer)),
         Action::Peeked(completion) => completed(b" peek_cqe ", completion, first, second),
         Action::PeekedNone => valued(b" peek_cqe none", ""),
+        Action::DataGot(data) => valued(b" cqe_get_data64 ", first.format(data)),
         Action::Reaped(data) => valued(b" cqe_seen ", first.format(data)),
         Action::ItemsPut => valued(b" put", ""),
         Action::Branched(true) => valued(b" if yes", ""),

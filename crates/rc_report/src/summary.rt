@@ -124,11 +124,42 @@ fn put_token(
     put_others(text, counts.len())
 }
 
-/// Adds a token's user data and kind, and how many completions it has.
+/// Adds a token's user data and kinds, and how many completions it has.
 fn put_token_head(text: &mut Vec<u8>, token: Token, count: u64) -> Result<(), AllocError> {
     put_counted(text, b"request ", token.user_data, b" (")?;
-    put_piece(text, kind_name(token.kind).as_bytes())?;
+    put_kinds(text, token)?;
     put_counted(text, b"): ", count, b" completions")
+}
+
+/// Adds the names of a token's kinds in the order of its line, each once.
+fn put_kinds(text: &mut Vec<u8>, token: Token) -> Result<(), AllocError> {
+    put_piece(text, kind_name(token.kind).as_bytes())?;
+    for (place, other) in token.others.iter().enumerate() {
+        match other {
+            Some(kind) if !is_named(token, place, *kind) => {
+                put_pieces(text, &[b" or ", kind_name(*kind).as_bytes()])?;
+            }
+            _ => {}
+        }
+    }
+    Ok(())
+}
+
+/// Whether a kind has the name of the token's first, or of one before this place of those after it.
+fn is_named(token: Token, place: usize, kind: TokenKind) -> bool {
+    if have_one_name(token.kind, kind) {
+        return true;
+    }
+    for before in token.others.iter().take(place) {
+        if matches!(before, Some(before) if have_one_name(*before, kind)) {
+            return true;
+        }
+    }
+    false
+}
+
+fn have_one_name(one: TokenKind, other: TokenKind) -> bool {
+    kind_name(one) == kind_name(other)
 }
 
 /// The name of a kind of request.

@@ -111,6 +111,7 @@ module _ (w : World) (h : IsOrderly w) where
         let new : Request = record q { serial = w.made + 1; user_data = u } in
         record { slot = tt; rising = subst (λ rs. Rising 0 rs (w.made + 1)) (append_assoc (requests w.pending) w.queued (new ∷ [])) (rising_push 0 (requests w.pending ++ w.queued) w.made new refl (subst SlotIsPlain p h.slot) h.rising) };
     submits = handed;
+    gets = λ c cs e. record { slot = h.slot; rising = h.rising };
     reaps = λ c cs e. record { slot = h.slot; rising = h.rising };
   })
 

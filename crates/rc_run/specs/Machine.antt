@@ -19,7 +19,7 @@ use Rattle.rc_run.specs.Held.{AreDistinct}
 use Rattle.rc_run.specs.Requests.{data_of}
 use Rattle.rc_world.specs.Changes.{standing_at}
 use Rattle.rc_world.specs.Controls.{Controls, controls_step, next_line}
-use Rattle.rc_world.specs.Machine.{Pending, World, bytes_brought, bytes_of, fills, in_rings, kernel_step, reaps_front, stores, thread_step}
+use Rattle.rc_world.specs.Machine.{Pending, World, bytes_brought, bytes_of, fills, gets_front, in_rings, kernel_step, reaps_front, stores, thread_step}
 use Rattle.rc_world.specs.WorldParts.{view_bytes}
 use Rattle.rc_run.specs.declared.machine.Machine.{Machine}
 use Rattle.rc_run.specs.declared.machine.Pending.{Pending as PendingPart}
@@ -133,7 +133,11 @@ fill_step m buffer byte = fills (world_of m) buffer byte (bytes_of (world_of m) 
 abbrev pub control_step : Machine → ℕ → Answer → Option (Event × Controls)
 control_step m i answer = controls_step (arc_value m.admitted) m.controls i answer
 
--- what taking the front completion away makes of the rings
+-- what getting the front completion's user data makes of the rings
+abbrev pub get_step : Machine → Option World
+get_step m = gets_front (world_of m) m.ring.completions
+
+-- what taking the front completion away makes of them
 abbrev pub reap_step : Machine → Option World
 reap_step m = reaps_front (world_of m) m.ring.completions
 

@@ -95,14 +95,14 @@ impl Live {
         free_count(&self.machine.pending, &self.out)
     }
 
-    /// How many completions wait to be reaped.
+    /// How many completed requests wait to be reaped.
     pub fn completed(&self) -> usize
         ensures { result ≡ length self.now.world.completed }
     {
         self.machine.completed.len()
     }
 
-    /// The completion that is reaped next.
+    /// The front completion.
     pub fn front(&self) -> Option<Completion>
         ensures { result ≡ slice_get self.now.world.completions 0 }
     {

@@ -143,6 +143,7 @@ impl Machine {
             Stmt::Do(Op::Load(_, buffer, i)) => self.byte(buffer, i),
             Stmt::Do(Op::Submit(_)) => Answer::Number(given),
             Stmt::Do(Op::SubmitAndWait(_, _)) => Answer::Number(given),
+            Stmt::Do(Op::CqeGetData64) => self.front(),
             Stmt::Do(Op::CqeSeen) => self.front(),
             Stmt::If(test) => self.test_answer(given, test),
             Stmt::Peek(_) => self.front(),

@@ -133,6 +133,7 @@ op_takes w n op.PrepOther = refl
 op_takes w n (op.SetData64 u) = refl
 op_takes w n (op.Submit x) = refl
 op_takes w n (op.SubmitAndWait x m) = refl
+op_takes w n op.CqeGetData64 = refl
 op_takes w n op.CqeSeen = refl
 
 test_takes : (w : World) (n : ℕ) (t : Test) → takes w (Some (pos n)) (stmt.If t) ≡ is_up_to n (most_answer w (stmt.If t))

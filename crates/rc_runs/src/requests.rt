@@ -1,9 +1,10 @@
-//! The open entry, and the requests that are queued, pending and completed.
+//! The open entry, the requests that are queued and pending, and the completions.
 
 use rc_lang::program::Program;
 use rc_lang::request::{Kind, Request};
 use rc_text::names::buffer_name;
 use rc_text::text::{put_counted, put_piece, put_pieces, put_signed};
+use rc_world::controls::Look;
 use rc_world::event::Completion;
 use rc_world::world::{Slot, World};
 use std::alloc::AllocError;
@@ -20,7 +21,7 @@ pub fn put_slot(text: &mut Vec<u8>, program: &Program, slot: Slot) -> Result<(),
     }
 }
 
-/// Adds the requests that are queued, pending and completed.
+/// Adds the requests that are queued and pending, and the completions.
 pub fn put_requests(text: &mut Vec<u8>, world: &World<'_>) -> Result<(), AllocError> {
     for request in world.queued() {
         put_request(text, b"queued: ", world.program(), *request)?;
@@ -30,10 +31,18 @@ pub fn put_requests(text: &mut Vec<u8>, world: &World<'_>) -> Result<(), AllocEr
             put_request(text, b"pending: ", world.program(), request)?;
         }
     }
-    for completion in world.completions() {
-        put_completion(text, *completion)?;
+    for (place, completion) in world.completions().iter().enumerate() {
+        put_completion(text, word_at(world, place), *completion)?;
     }
     Ok(())
+}
+
+/// The word for the completion at a place of the ring. Once the front one is got, its request is reaped.
+fn word_at(world: &World<'_>, place: usize) -> &'static [u8] {
+    match (place, world.look()) {
+        (0, Look::Got) => b"got: ",
+        _ => b"completed: ",
+    }
 }
 
 /// Adds a request, after the word for where it is.
@@ -69,8 +78,13 @@ fn put_moved(
     put_counted(text, b" ", u64::from(request.len), b"\n")
 }
 
-fn put_completion(text: &mut Vec<u8>, completion: Completion) -> Result<(), AllocError> {
-    put_counted(text, b"completed: ", completion.user_data, b" ")?;
+/// Adds a completion, after its word.
+fn put_completion(
+    text: &mut Vec<u8>,
+    word: &[u8],
+    completion: Completion,
+) -> Result<(), AllocError> {
+    put_counted(text, word, completion.user_data, b" ")?;
     put_signed(text, i64::from(completion.res))?;
     put_piece(text, b"\n")
 }

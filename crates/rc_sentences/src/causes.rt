@@ -100,7 +100,7 @@ fn sentence_of_rule(cause: Cause) -> &'static str {
         Cause::LoopEntry => "The loop keeps this, but it isn't held here.",
         Cause::LoopBody => "Each round must end with all that the loop keeps.",
         Cause::JoinMismatch =>
-            "One branch leaves an entry open and the other doesn't, or they leave it at different stages.",
+            "One branch leaves an entry open, or a completion got, and the other doesn't; or they leave the entry at different stages.",
         Cause::OverShares =>
             "Shares are handed out once, by the headers, and these hand out more than the buffer has.",
         Cause::TokenTwice =>
@@ -109,12 +109,19 @@ fn sentence_of_rule(cause: Cause) -> &'static str {
             "Each credit is a place in the completion ring, and the headers hold more than it has.",
         Cause::NotHeld =>
             "Any thread may take what is in the pool, so what a request, another thread or nobody has can't be put there.",
+        Cause::NotSeen =>
+            "A completion that is got stays in the ring until `cqe_seen`: the next peek shows it again, and its request is reaped by then.",
     }
 }
 
 /// Why a line that puts into the pool without a name or takes from it asks for both locks.
 pub(crate) fn why_of_pool() -> &'static str {
     "The pool without a name is one table under the locks of both sides, and two threads in it at once may take the same items."
+}
+
+/// Why a line that gets the user data of a completion asks for a peek.
+pub(crate) fn why_of_data() -> &'static str {
+    "`io_uring_cqe_get_data64(3)` reads through the pointer that a peek gives, and here no peek gave one."
 }
 
 /// What to write for a line that can't be read.
@@ -173,7 +180,7 @@ fn fix_of_rule(cause: Cause) -> &'static str {
         Cause::LoopBody =>
             "Give back in the body what it takes, keep less, or end the round by `break`.",
         Cause::JoinMismatch =>
-            "Put all of a request into the branch, from `get_sqe` to `set_data64`, or none of it.",
+            "Put all of a request into the branch, from `get_sqe` to `set_data64`, or none of it; and see a completion in the branch that gets it.",
         Cause::OverShares =>
             "Declare a share for each thread that reads, or let one thread begin with them and pass them on by a request.",
         Cause::TokenTwice =>
@@ -181,5 +188,7 @@ fn fix_of_rule(cause: Cause) -> &'static str {
         Cause::OverCredits =>
             "Declare a larger completion ring by `cq`, or hold fewer credits in the headers.",
         Cause::NotHeld => "Put it where it came back: after the `cqe_seen` in its own `case`.",
+        Cause::NotSeen =>
+            "Write `cqe_seen` above this line, after the last use of what the completion says.",
     }
 }

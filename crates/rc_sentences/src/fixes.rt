@@ -11,9 +11,12 @@ use crate::asks::Missing;
 use crate::lost::request_of;
 use crate::lost::ways::{Loss, Point};
 use crate::parts::put_part;
+use crate::state_text::put_kinds;
 use crate::walked::Refused;
-use rc_lang::lines::{Locks, Stmt};
+use rc_lang::lines::{Locks, Op, Stmt};
+use rc_lang::program::Token;
 use rc_rules::cause::Cause;
+use rc_rules::kinds::{shares_of, token_of};
 use rc_split::part::Part;
 use rc_text::text::{put_counted, put_piece};
 use std::alloc::AllocError;
@@ -30,7 +33,19 @@ pub fn put_fix(
         (Cause::Unlocked, _) => locks::put_lock(fix, refused),
         (Cause::QueueLeft, _) => loops::put_queue(fix, refused),
         (Cause::QueueFull, _) => room::put_space(fix, refused),
+        (Cause::NoEntry, _) => put_for_entry(fix, refused),
         (_, Some((missing, loss))) => put_for_loss(fix, refused, cause, missing, loss),
+        _ => Ok(()),
+    }
+}
+
+/// Adds where a line that gets the user data of a completion is to be.
+fn put_for_entry(fix: &mut Vec<u8>, refused: Refused) -> Result<(), AllocError> {
+    match refused.stmt(refused.place) {
+        Stmt::Do(Op::CqeGetData64) => put_piece(
+            fix,
+            b"Put `cqe_get_data64` into the arm that saw the completion, above its `cqe_seen`.",
+        ),
         _ => Ok(()),
     }
 }
@@ -63,11 +78,8 @@ fn put_for_loss(
     loss: Loss,
 ) -> Result<(), AllocError> {
     match loss {
-        Loss::Peeked(part) => {
-            put_piece(text, b"Write `cqe_seen` above this line, since it gives ")?;
-            put_part(text, refused.program(), part)?;
-            put_piece(text, b" back.")
-        }
+        Loss::Peeked(part) => put_back(text, refused, part, get_or_see(refused, part)),
+        Loss::Got(part) => put_back(text, refused, part, SEE),
         Loss::At(point, _) => put_for_line(text, refused, cause, missing.part, point),
         Loss::Ends(lacking, _, holding) if uses(cause) => {
             if flags::put_when(text, refused, holding)? {
@@ -81,6 +93,30 @@ fn put_for_loss(
         Loss::Never if uses(cause) && !missing.on_other => put_never(text, refused, missing.part),
         _ => Ok(()),
     }
+}
+
+// What to write where a part comes back with the peeked completion.
+const SEE: &[u8] = b"Write `cqe_seen` above this line, since it gives ";
+
+/// The same, of a part that the request has: from version 5 on also what only gets it gives that back.
+fn get_or_see(refused: Refused, part: Part) -> &'static [u8] {
+    match part {
+        Part::Credits(_) => SEE,
+        _ if refused.program().version() < 5 => SEE,
+        _ => b"Write `cqe_get_data64` above this line, or `cqe_seen`, since each gives ",
+    }
+}
+
+/// Adds what gives a part back.
+fn put_back(
+    text: &mut Vec<u8>,
+    refused: Refused,
+    part: Part,
+    advice: &[u8],
+) -> Result<(), AllocError> {
+    put_piece(text, advice)?;
+    put_part(text, refused.program(), part)?;
+    put_piece(text, b" back.")
 }
 
 /// Adds how a line is fixed that misses a part which the line at a place gave away.
@@ -171,6 +207,9 @@ fn put_reaped(
     let Some(user_data) = request_of(refused, point.place) else {
         return Ok(());
     };
+    if let Some(token) = lessening(refused, user_data, point.place) {
+        return put_apart(text, refused, token);
+    }
     put_counted(text, b"Reap request ", user_data, b" first, since ")?;
     match cause {
         Cause::NoCredit => put_piece(
@@ -187,4 +226,32 @@ fn put_reaped(
         flags::put_zero(text, refused, point.place)?;
     }
     put_piece(text, b".")
+}
+
+/// The token of a request with which less comes back than the prep at a place took, since another kind of the token owns
+/// less.
+fn lessening(refused: Refused, user_data: u64, place: usize) -> Option<Token> {
+    let program = refused.program();
+    let (buffer, taken) = match refused.stmt(place) {
+        Stmt::Do(Op::PrepRead(_, buffer, _, _)) => (buffer, program.shares_at(buffer)),
+        Stmt::Do(Op::PrepWrite(_, buffer, _, _, count)) => (buffer, count),
+        _ => return None,
+    };
+    let token = token_of(program, user_data)?;
+    (shares_of(program, token, buffer) < taken).then_some(token)
+}
+
+/// Adds that each kind of a token is to have a token of its own.
+fn put_apart(text: &mut Vec<u8>, refused: Refused, token: Token) -> Result<(), AllocError> {
+    put_counted(
+        text,
+        b"Declare a token for each kind of token ",
+        token.user_data,
+        b", ",
+    )?;
+    put_kinds(text, refused.program(), token)?;
+    put_piece(
+        text,
+        b": as it is, only the least that one of them owns comes back with its request.",
+    )
 }

@@ -53,7 +53,17 @@ fn put_loss(
     match loss {
         Loss::Peeked(part) => {
             put_part(text, page.refused.program(), part)?;
-            put_piece(text, b" belongs to the peeked request until cqe_seen")
+            put_pieces(
+                text,
+                &[
+                    b" belongs to the peeked request until ",
+                    calls_for(page.refused, part),
+                ],
+            )
+        }
+        Loss::Got(part) => {
+            put_part(text, page.refused.program(), part)?;
+            put_piece(text, b" comes back when the completion that is got is seen")
         }
         Loss::At(point, by_flag) => {
             put_part(text, page.refused.program(), missing.part)?;
@@ -70,6 +80,15 @@ fn put_loss(
             put_pieces(text, &[b" isn't held", flag, b" on any path to this line"])?;
             put_header(text, page, missing.part)
         }
+    }
+}
+
+/// The calls that give a part of the peeked request back.
+fn calls_for(refused: Refused, part: Part) -> &'static [u8] {
+    match part {
+        Part::Credits(_) => b"cqe_seen",
+        _ if refused.program().version() < 5 => b"cqe_seen",
+        _ => b"cqe_get_data64 or cqe_seen",
     }
 }
 

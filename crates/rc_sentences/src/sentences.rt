@@ -1,11 +1,12 @@
 //! What is said of a refused line.
 
 use crate::asks::{Need, header_need, is_of_both, line_need};
-use crate::causes::{advice_on_rule, why_of_pool};
+use crate::causes::{advice_on_rule, why_of_data, why_of_pool};
 use crate::fixes::put_fix;
 use crate::lost::ways::loss_of;
 use crate::lost::{last_held, put_lost};
 use crate::walked::Refused;
+use rc_lang::lines::{Op, Stmt};
 use rc_lang::program::Program;
 use rc_read::source::Lines;
 use rc_rules::cause::Cause;
@@ -59,14 +60,22 @@ pub fn sentences_on_line(
         sentences.held = last_held(refused, missing.part);
         lost = Some((missing, loss));
     }
-    if matches!(cause, Cause::Unlocked)
-        && is_of_both(refused.program(), refused.stmt(refused.place))
-    {
-        sentences.why = why_of_pool();
+    if let Some(why) = why_of_line(refused, cause) {
+        sentences.why = why;
     }
     put_fix(&mut sentences.fix, refused, cause, lost)?;
     put_rule(&mut sentences.fix, cause)?;
     Ok(sentences)
+}
+
+/// Why a line is a mistake for which the cause alone doesn't say that.
+fn why_of_line(refused: Refused, cause: Cause) -> Option<&'static str> {
+    let stmt = refused.stmt(refused.place);
+    match (cause, stmt) {
+        (Cause::Unlocked, _) => is_of_both(refused.program(), stmt).then_some(why_of_pool()),
+        (Cause::NoEntry, Stmt::Do(Op::CqeGetData64)) => Some(why_of_data()),
+        _ => None,
+    }
 }
 
 /// What is asked for, and why it is a mistake.

@@ -81,6 +81,28 @@ pub fn put_kind(text: &mut Vec<u8>, program: &Program, kind: TokenKind) -> Resul
     }
 }
 
+/// Adds what the line of a token says that its request may be, with `or` between two kinds.
+pub fn put_kinds(text: &mut Vec<u8>, program: &Program, token: Token) -> Result<(), AllocError> {
+    put_kind(text, program, token.kind)?;
+    for other in &token.others {
+        put_other(text, program, *other)?;
+    }
+    Ok(())
+}
+
+/// Adds a kind after `or`, if there is one.
+fn put_other(
+    text: &mut Vec<u8>,
+    program: &Program,
+    kind: Option<TokenKind>,
+) -> Result<(), AllocError> {
+    let Some(kind) = kind else {
+        return Ok(());
+    };
+    put_piece(text, b" or ")?;
+    put_kind(text, program, kind)
+}
+
 /// Adds that an entry is prepared with a request of this kind.
 fn put_prepared(text: &mut Vec<u8>, program: &Program, kind: TokenKind) -> Result<(), AllocError> {
     put_piece(text, b", entry prepared ")?;
@@ -102,6 +124,7 @@ fn put_peeked(text: &mut Vec<u8>, peeked: Peeked) -> Result<(), AllocError> {
         Peeked::Unseen => Ok(()),
         Peeked::Sees(user_data) => put_counted(text, b", peeked ", user_data, b""),
         Peeked::SeesOther => put_piece(text, b", peeked other"),
+        Peeked::Got => put_piece(text, b", got"),
     }
 }
 

@@ -1,4 +1,4 @@
-//! The courses of requests, from `get_sqe` to `cqe_seen`.
+//! The courses of requests, from `get_sqe` to `cqe_seen`, or to `cqe_get_data64` before it.
 
 use crate::fault::is_at_fault;
 use crate::frames::Frame;
@@ -150,12 +150,12 @@ impl Course {
         }
     }
 
-    /// Goes on to its next stage, if that begins at this event.
-    fn advance(&mut self, number: u64, frame: &Frame) {
+    /// Goes on to its next stage, if that begins at this event, which has this mark.
+    fn advance(&mut self, number: u64, frame: &Frame, mark: Mark) {
         let Some(next) = self.stage.next() else {
             return;
         };
-        let (marked, user_data) = mark_of(frame.event);
+        let (marked, user_data) = mark;
         let after = frame.after;
         let is_begun = match next {
             Stage::Pending => self.serial <= after.made.saturating_sub(after.queued),
@@ -178,7 +178,29 @@ impl Course {
 }
 
 /// Which stage of a request an event begins, and the user data that it names, else 0.
-fn mark_of(event: Event) -> (Option<Stage>, u64) {
+type Mark = (Option<Stage>, u64);
+
+/// The mark of the event at a place. A front completion that is got has no request to reap.
+fn mark_at(frames: &[Frame], place: usize) -> Mark {
+    let Some(frame) = frames.get(place) else {
+        return (None, 0);
+    };
+    match mark_of(frame.event) {
+        (Some(Stage::Reaped), _) if was_got(frames, place) => (None, 0),
+        mark => mark,
+    }
+}
+
+/// Whether the front completion was got before the event at a place.
+fn was_got(frames: &[Frame], place: usize) -> bool {
+    match place.checked_sub(1) {
+        Some(before) => matches!(frames.get(before), Some(frame) if frame.after.is_got),
+        None => false,
+    }
+}
+
+/// The mark of an event, where the front completion isn't got.
+fn mark_of(event: Event) -> Mark {
     let action = match event {
         Event::ByThread { action, .. } => action,
         Event::ByKernel(completion) => return (Some(Stage::Completed), completion.user_data),
@@ -189,7 +211,9 @@ fn mark_of(event: Event) -> (Option<Stage>, u64) {
         Action::FsyncPrepared | Action::NopPrepared => (Some(Stage::Prepared), 0),
         Action::OtherPrepared => (Some(Stage::Prepared), 0),
         Action::DataSet(user_data) => (Some(Stage::Queued), user_data),
-        Action::Reaped(user_data) => (Some(Stage::Reaped), user_data),
+        Action::DataGot(user_data) | Action::Reaped(user_data) => {
+            (Some(Stage::Reaped), user_data)
+        }
         _ => (None, 0),
     }
 }
@@ -218,11 +242,12 @@ fn all_courses(alloc: Global, frames: &[Frame]) -> Result<Vec<Course>, AllocErro
     let mut first: usize = 0;
     for (place, frame) in frames.iter().enumerate() {
         let number = place as u64 + 1;
-        advance_all(&mut courses, first, number, frame);
+        let mark = mark_at(frames, place);
+        advance_all(&mut courses, first, number, frame, mark);
         if matches!(courses.get(first), Some(course) if course.stage == Stage::Reaped) {
             first = first.saturating_add(1);
         }
-        if mark_of(frame.event).0 == Some(Stage::Opened) {
+        if mark.0 == Some(Stage::Opened) {
             courses.push(Course {
                 events: [number, 0, 0, 0, 0, 0],
                 stage: Stage::Opened,
@@ -236,11 +261,11 @@ fn all_courses(alloc: Global, frames: &[Frame]) -> Result<Vec<Course>, AllocErro
     Ok(courses)
 }
 
-/// Lets the requests from a place on go on by an event.
-fn advance_all(courses: &mut Vec<Course>, from: usize, number: u64, frame: &Frame) {
+/// Lets the requests from a place on go on by an event, which has this mark.
+fn advance_all(courses: &mut Vec<Course>, from: usize, number: u64, frame: &Frame, mark: Mark) {
     for place in from..courses.len() {
         if let Some(course) = courses.get_mut(place) {
-            course.advance(number, frame);
+            course.advance(number, frame, mark);
         }
     }
 }

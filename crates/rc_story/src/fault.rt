@@ -113,7 +113,7 @@ fn lacked_at_fault(run: &Run<'_, '_>) -> Locks {
 fn locks_for(stmt: Stmt) -> Locks {
     let (sq, cq) = match stmt {
         Stmt::Put(None, _) | Stmt::If(Test::Take(None, _)) => (true, true),
-        Stmt::Peek(_) | Stmt::Do(Op::CqeSeen) => (false, true),
+        Stmt::Peek(_) | Stmt::Do(Op::CqeGetData64 | Op::CqeSeen) => (false, true),
         Stmt::If(Test::ReadyZero | Test::SpaceAtLeast(_)) => (true, false),
         Stmt::Do(op) => (!call_of(op).is_empty(), false),
         _ => (false, false),

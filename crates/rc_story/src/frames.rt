@@ -1,7 +1,7 @@
 //! The events of a run, each with the line that it was made at and the world after it.
 
 use rc_lang::lines::Line;
-use rc_world::controls::Holders;
+use rc_world::controls::{Holders, Look};
 use rc_world::event::{Event, Item};
 use rc_world::world::{Slot, World};
 
@@ -16,8 +16,10 @@ pub struct Moment {
     pub made: u64,
     /// How many requests are queued.
     pub queued: u64,
-    /// How many completions aren't reaped.
+    /// How many completions are in the ring.
     pub completions: u64,
+    /// Whether the front completion is got.
+    pub is_got: bool,
 }
 
 /// What is drawn of the world before the first event.
@@ -27,6 +29,7 @@ pub const START: Moment = Moment {
     made: 0,
     queued: 0,
     completions: 0,
+    is_got: false,
 };
 
 /// An event of a run.
@@ -48,7 +51,13 @@ pub fn moment_of(world: &World<'_>) -> Moment {
         made: world.made(),
         queued: world.queued().len() as u64,
         completions: world.completions().len() as u64,
+        is_got: is_got(world),
     }
+}
+
+/// Whether the front completion is got: its request is reaped, and its entry still there.
+pub fn is_got(world: &World<'_>) -> bool {
+    matches!(world.look(), Look::Got)
 }
 
 /// The line that an item's thread has next.

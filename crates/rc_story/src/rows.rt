@@ -229,6 +229,7 @@ fn result_of(action: Action) -> [Piece<'static>; 3] {
             Signed(i64::from(completion.res)),
         ],
         Action::PeekedNone => one(Word(b"none")),
+        Action::DataGot(user_data) => one(Number(user_data)),
         _ => [NOTHING; 3],
     }
 }

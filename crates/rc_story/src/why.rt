@@ -2,12 +2,14 @@
 
 use crate::courses::{Course, Stage};
 use crate::fault::{Blame, call_of};
+use crate::frames::is_got;
 use crate::run::{BOTH, Run, Touch, Turn, Verb, touch_of};
 use crate::sentence::Part::{self, Name, Number, Put, Requests, Since, There, Word};
 use crate::sentence::{Naming, Sentence, Why};
 use crate::stocks::Over;
 use rc_lang::lines::{Op, Stmt, Test};
 use rc_text::names::{buffer_name, side_of, thread_name};
+use rc_world::controls::Look;
 use rc_world::fault::FaultKind;
 use rc_world::world::Slot;
 use std::alloc::{AllocError, Global};
@@ -56,14 +58,15 @@ fn found_in(alloc: Global, courses: &[Course]) -> Result<Vec<Course>, AllocError
     Ok(found)
 }
 
-/// The requests whose completions are in the ring, from its front.
+/// The requests whose completions are in the ring, from its front. One that is got has none.
 fn completed_in(
     alloc: Global,
     run: &Run<'_, '_>,
     courses: &[Course],
 ) -> Result<Vec<Course>, AllocError> {
     let mut found = Vec::new(alloc);
-    for completion in run.world.completions() {
+    let first = usize::from(is_got(run.world));
+    for completion in run.world.completions().get(first..).unwrap_or(&[]) {
         for course in courses {
             if course.stage == Stage::Completed && course.user_data == completion.user_data {
                 found.push(*course)?;
@@ -154,7 +157,14 @@ fn say_overflow(to: &mut Sentence<'_>, run: &Run<'_, '_>, found: &[Course], comp
         &[Requests(found, Naming::First)],
     );
     to.say(b"{} of {}: ", &[entries, entries]);
-    to.say(b"{}.", &[Requests(completed, Naming::Short)]);
+    match (is_got(run.world), completed.is_empty()) {
+        (true, true) => to.say(b"the front one is got and not seen.", &[]),
+        (true, false) => to.say(
+            b"the front one is got and not seen, {}.",
+            &[Requests(completed, Naming::Short)],
+        ),
+        (false, _) => to.say(b"{}.", &[Requests(completed, Naming::Short)]),
+    }
 }
 
 /// F7.
@@ -175,9 +185,22 @@ fn say_unknown(to: &mut Sentence<'_>, run: &Run<'_, '_>, culprit: Part<'_>) {
     } else {
         Word(b"")
     };
+    let does: &[u8] = match run.culprit {
+        Some(
+            Turn {
+                stmt: Stmt::Do(Op::CqeGetData64),
+                ..
+            },
+        ) => b"get the user data of a completion",
+        _ => b"take a completion away",
+    };
+    let lacks: &[u8] = match run.world.look() {
+        Look::Unseen => b"has peeked at none",
+        Look::Peeked | Look::Got => b"its request is reaped already",
+    };
     to.say(
-        b"{}{} is about to take a completion away, and has peeked at none.",
-        &[culprit, held],
+        b"{}{} is about to {}, and {}.",
+        &[culprit, held, Word(does), Word(lacks)],
     );
 }
 

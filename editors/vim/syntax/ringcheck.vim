@@ -13,7 +13,7 @@ syntax keyword ringcheckTodo TODO FIXME XXX contained
 
 syntax keyword ringcheckHead ringcheck ring left
 syntax keyword ringcheckDeclaration file buffer token pool
-syntax keyword ringcheckKind read write fsync nop
+syntax keyword ringcheckKind read write fsync nop or
 syntax keyword ringcheckThread thread holds
 syntax keyword ringcheckBlock lock peek_cqe
 syntax keyword ringcheckSide sq cq
@@ -21,7 +21,7 @@ syntax keyword ringcheckArm case other none
 syntax keyword ringcheckBranch if else any
 syntax keyword ringcheckLoop loop keeps when break
 syntax keyword ringcheckCall get_sqe prep_read prep_write prep_fsync prep_nop prep_other set_data64
-syntax keyword ringcheckCall submit submit_and_wait cqe_seen sq_ready sq_space_left
+syntax keyword ringcheckCall submit submit_and_wait cqe_get_data64 cqe_seen sq_ready sq_space_left
 syntax keyword ringcheckPool put take
 syntax keyword ringcheckByte load store fill print
 

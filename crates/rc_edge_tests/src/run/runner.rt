@@ -1,5 +1,6 @@
 //! Runs of small programs on threads.
 
+mod early;
 mod jobs;
 mod turns;
 

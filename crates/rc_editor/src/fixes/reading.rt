@@ -78,7 +78,7 @@ fn push_version(
 /// The version that the form of the line needs, if the one above is too old for it.
 fn needed_version(faulty: &Faulty, above: &Parts) -> Result<Option<u32>, AllocError> {
     let words = faulty.words(faulty.line)?;
-    let Some(fit) = fit_of(faulty.alloc, 4, above.region, &words)? else {
+    let Some(fit) = fit_of(faulty.alloc, 5, above.region, &words)? else {
         return Ok(None);
     };
     let needed = version_of(fit.row);

@@ -18,8 +18,10 @@ pub fn push(actions: &mut Vec<Action>, faulty: &Faulty, cause: Cause) -> Result<
         Cause::Unlocked => push_locks(actions, faulty)?,
         Cause::NoSlot => push_line(actions, faulty, b"get_sqe")?,
         Cause::QueueLeft => push_submits(actions, faulty)?,
-        Cause::NoCredit | Cause::NotWhole | Cause::NoShare | Cause::NoToken | Cause::NotHeld => {
-            push_line(actions, faulty, b"cqe_seen")?
+        Cause::NoCredit | Cause::NotSeen => push_line(actions, faulty, b"cqe_seen")?,
+        Cause::NotWhole | Cause::NoShare | Cause::NoToken | Cause::NotHeld => {
+            push_line(actions, faulty, b"cqe_seen")?;
+            push_line(actions, faulty, b"cqe_get_data64")?
         }
         _ => {}
     }

@@ -6,16 +6,17 @@ ghost use Rattle.std.specs.Vec.{vec_capacity, vec_len};
 ghost use Rattle.rc_world.specs.Changes.{CallIsSmall, StmtIsSmall};
 ghost use Rattle.rc_lang.specs.declared.lines.Stmt.TheVariants.{Do};
 ghost use Rattle.rc_world.specs.declared.world.Slot.TheVariants.{Closed};
-ghost use Rattle.rc_world.specs.Machine.{count_in, hands_over, is_take, taken_bytes, without_taken};
+ghost use Rattle.rc_world.specs.Machine.{count_in, hands_over, is_take, taken_bytes, without_front, without_taken};
 ghost use Rattle.rc_world.specs.WorldParts.{begun_buffers, begun_pending, view_bytes};
 ghost use Rattle.rc_run.specs.Held.{AreDistinct};
-ghost use Rattle.rc_run.specs.Machine.{IsClosedAt, IsFreshAt, IsSameRest, IsSized, datasync_by, datasync_by_op, fill_step, pending_of, reap_step, ring_step, store_step, views, world_of};
+ghost use Rattle.rc_run.specs.Machine.{IsClosedAt, IsFreshAt, IsSameRest, IsSized, datasync_by, datasync_by_op, fill_step, get_step, pending_of, reap_step, ring_step, store_step, views, world_of};
 ghost use Rattle.rc_run.specs.Requests.{data_of};
 
 use super::{Machine, Pending};
 use crate::request_ring::RequestRing;
 use rc_lang::lines::{Op, Stmt};
 use rc_lang::request::Request;
+use rc_world::controls::Look;
 use rc_world::world::requests::{is_read, remove_first};
 use std::alloc::AllocError;
 
@@ -80,7 +81,8 @@ impl Machine {
             Op::PrepOther => self.ring.prepare_nop(true),
             Op::SetData64(user_data) => self.ring.queue(user_data)?,
             Op::Submit(_) | Op::SubmitAndWait(_, _) => self.hand_over(taken)?,
-            Op::CqeSeen => self.reap(),
+            Op::CqeGetData64 => self.get_data(),
+            Op::CqeSeen => self.see(),
             _ => {}
         }
         Ok(())
@@ -130,8 +132,24 @@ impl Machine {
         Ok(())
     }
 
-    // The front completion goes, and its request is no longer in flight.
-    fn reap(&mut self)
+    // The request of the front completion is no longer in flight, which it wasn't before where the front is got.
+    fn get_data(&mut self)
+        requires step { IsSome (get_step self.old) }
+        requires sized { IsSized self.old }
+        ensures step { get_step self.old ≡ Some (world_of self.new) }
+        ensures datasync { self.new.ring.datasync ≡ self.old.ring.datasync }
+        ensures rest { IsSameRest self.old self.new }
+        ensures controls { self.new.controls ≡ self.old.controls }
+    {
+        let Some(completion) = self.ring.front() else {
+            unreachable!()
+        };
+        let look = self.controls.look();
+        remove_front(&mut self.completed, look, completion.user_data);
+    }
+
+    // The same, and the front completion goes.
+    fn see(&mut self)
         requires step { IsSome (reap_step self.old) }
         requires sized { IsSized self.old }
         ensures step { reap_step self.old ≡ Some (world_of self.new) }
@@ -142,8 +160,22 @@ impl Machine {
         let Some(completion) = self.ring.front() else {
             unreachable!()
         };
+        let look = self.controls.look();
+        remove_front(&mut self.completed, look, completion.user_data);
         self.ring.see();
-        remove_first(&mut self.completed, completion.user_data);
+    }
+}
+
+// Leaves the requests without that of the front completion, which has this user data. A front that is got has none there.
+fn remove_front(requests: &mut Vec<Request>, look: Look, user_data: u64)
+    ensures items { requests.new.items ≡ without_front look user_data requests.old.items }
+    ensures fewer { vec_len requests.new ≤ vec_len requests.old }
+    ensures capacity { vec_capacity requests.new ≡ vec_capacity requests.old }
+{
+    match look {
+        Look::Unseen => remove_first(requests, user_data),
+        Look::Peeked => remove_first(requests, user_data),
+        Look::Got => {}
     }
 }
 

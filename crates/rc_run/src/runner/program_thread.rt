@@ -299,11 +299,11 @@ fn is_vain(action: Action, step: Step) -> bool {
     }
 }
 
-// Whether an event moves something: an entry is queued or the next submit may take it, requests become pending, a
-// completion is reaped, or items go into a pool or come from it.
+// Whether an event moves something: an entry is queued or the next submit may take it, requests become pending, one is
+// reaped or its completion is taken away, or items go into a pool or come from it.
 fn moves(action: Action, step: Step, is_queued: bool) -> bool {
     match action {
-        Action::DataSet(_) | Action::Reaped(_) | Action::ItemsPut => true,
+        Action::DataSet(_) | Action::DataGot(_) | Action::Reaped(_) | Action::ItemsPut => true,
         Action::Submitted(taken) => taken > 0 || is_queued,
         Action::Branched(yes) => yes && matches!(step, Step::Take),
         _ => false,

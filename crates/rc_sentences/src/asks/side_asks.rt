@@ -1,10 +1,11 @@
 //! What is asked for of one side of a state.
 
 use crate::parts::{Claim, Counted, first_missing, put_parts, said};
-use crate::state_text::put_kind;
+use crate::state_text::{put_kind, put_kinds};
 use rc_lang::program::Program;
+use rc_rules::kinds::token_of;
 use rc_rules::mode::{Slot, Submitting, sq_of, unlocked};
-use rc_rules::needs::{Asks, kind_of};
+use rc_rules::needs::Asks;
 use rc_rules::side::Side;
 use rc_split::part::Part;
 use rc_text::names::buffer_name;
@@ -63,8 +64,8 @@ fn put_slot_asked(text: &mut Vec<u8>, side: &Side, asked: &[u8]) -> Result<(), A
 /// Adds what the line of a token says, and how the entry is.
 fn put_line(text: &mut Vec<u8>, side: &Side, user_data: u64) -> Result<(), AllocError> {
     put_counted(text, b"asks for what token ", user_data, b" says, ")?;
-    if let Some(kind) = kind_of(side.program(), user_data) {
-        put_kind(text, side.program(), kind)?;
+    if let Some(token) = token_of(side.program(), user_data) {
+        put_kinds(text, side.program(), token)?;
     }
     put_piece(text, b"; ")?;
     put_slot(text, side.program(), sq_on(side).slot)
@@ -144,8 +145,6 @@ pub fn put_side(
 ) -> Result<(), AllocError> {
     let program = side.program();
     match asks {
-        Asks::SqLock => put_lock(text, program, b" sq"),
-        Asks::CqLock => put_lock(text, program, b" cq"),
         Asks::Part(part) => put_part_asked(text, side, part),
         Asks::Whole(buffer) => put_whole(text, side, buffer),
         Asks::Items(list) => {
@@ -153,37 +152,39 @@ pub fn put_side(
             put_missing(text, side, said(program, thread, list, true))
         }
         Asks::Loop(list) => put_loop(text, side, thread, list, zero),
+        Asks::Place(buffer, place) => {
+            let bytes = program.bytes_at(buffer);
+            put_bytes(text, b"a place below ", bytes, b"", place)
+        }
+        Asks::Length(buffer, length) => {
+            let bytes = program.bytes_at(buffer);
+            put_bytes(text, b"at most ", bytes, b" bytes", length)
+        }
+        asks => put_ring_asked(text, side, asks),
+    }
+}
+
+/// Adds what is asked for of the rings, and how they are.
+fn put_ring_asked(text: &mut Vec<u8>, side: &Side, asks: Asks) -> Result<(), AllocError> {
+    let program = side.program();
+    match asks {
+        Asks::SqLock => put_lock(text, program, b" sq"),
+        Asks::CqLock => put_lock(text, program, b" cq"),
         Asks::Closed => put_slot_asked(text, side, b"no open entry"),
         Asks::Vacant => put_slot_asked(text, side, b"a vacant entry"),
         Asks::Prepared => put_slot_asked(text, side, b"a prepared entry"),
         Asks::Line(user_data) => put_line(text, side, user_data),
-        Asks::Peeked => {
-            put_piece(
-                text,
-                b"asks for a completion that is peeked; nothing is peeked",
-            )
-        }
+        Asks::Peeked => put_piece(
+            text,
+            b"asks for a completion that is peeked; nothing is peeked",
+        ),
+        Asks::Seen => put_piece(
+            text,
+            b"asks that the completion which `cqe_get_data64` got is seen; it isn't",
+        ),
         Asks::Room => put_room(text, side),
         Asks::Left => put_left(text, side),
-        Asks::Place(buffer, place) => {
-            put_bytes(
-                text,
-                b"a place below ",
-                program.bytes_at(buffer),
-                b"",
-                place,
-            )
-        }
-        Asks::Length(buffer, length) => {
-            put_bytes(
-                text,
-                b"at most ",
-                program.bytes_at(buffer),
-                b" bytes",
-                length,
-            )
-        }
-        Asks::Agreeing => Ok(()),
+        _ => Ok(()),
     }
 }
 

@@ -41,7 +41,7 @@ pub fn put_lock(text: &mut Vec<u8>, refused: Refused) -> Result<(), AllocError> 
         Stmt::Put(None, _) => put_named(text, refused, held, b"put"),
         Stmt::If(Test::Take(None, _)) => put_named(text, refused, held, b"if take"),
         Stmt::Peek(_) => put_reaping(text, refused, held),
-        Stmt::Do(Op::CqeSeen) => put_reaping(text, refused, held),
+        Stmt::Do(Op::CqeGetData64 | Op::CqeSeen) => put_reaping(text, refused, held),
         _ => put_submitting(text, refused, held),
     }
 }

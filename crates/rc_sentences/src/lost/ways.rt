@@ -3,9 +3,9 @@
 use crate::asks::Missing;
 use crate::walked::Refused;
 use rc_lang::lines::{Op, Stmt, Test};
-use rc_lang::program::{Program, TokenKind};
+use rc_lang::program::Program;
+use rc_rules::kinds::{shares_of, token_of};
 use rc_rules::mode::{Peeked, peeked_of, unlocked};
-use rc_rules::needs::kind_of;
 use rc_rules::side::Side;
 use rc_split::part::Part;
 
@@ -29,6 +29,8 @@ pub struct Point {
 pub enum Loss {
     /// It belongs to the peeked request, this much of it.
     Peeked(Part),
+    /// It comes back with the completion that is got, when that is seen.
+    Got(Part),
     /// It is held before the line at this place, and not after it on this side; whether it is on the other side.
     At(Point, bool),
     /// Of the ends that join above the line this one doesn't have it on this side; whether it does on the other side;
@@ -45,28 +47,22 @@ struct Ways<'a> {
     part: Part,
 }
 
-/// What the peeked request has of a part, if it has some.
+/// What comes back of a part with the peeked completion, if some does.
 fn owned_of(program: &Program, peeked: Peeked, part: Part) -> Option<Part> {
-    let kind = match peeked {
-        Peeked::Unseen => return None,
-        Peeked::SeesOther => None,
-        Peeked::Sees(user_data) => kind_of(program, user_data),
-    };
-    match (part, kind) {
+    match (part, peeked) {
+        (_, Peeked::Unseen) => None,
         (Part::Credits(_), _) => Some(Part::Credits(1)),
-        (Part::Token(token), _) if peeked == Peeked::Sees(token) => Some(part),
-        (Part::Shares(buffer, _), Some(TokenKind::Read(read))) if read == buffer => {
-            Some(Part::Shares(buffer, program.shares_at(buffer)))
-        }
-        (Part::Shares(buffer, _), Some(TokenKind::Write(written, count))) if written == buffer => {
-            Some(Part::Shares(buffer, count))
+        (Part::Token(token), Peeked::Sees(user_data)) => (token == user_data).then_some(part),
+        (Part::Shares(buffer, _), Peeked::Sees(user_data)) => {
+            let back = shares_of(program, token_of(program, user_data)?, buffer);
+            (back > 0).then_some(Part::Shares(buffer, back))
         }
         _ => None,
     }
 }
 
-/// What the peeked request has of a part, where the part is held together with that.
-fn peeked_part(side: &Side, part: Part) -> Option<Part> {
+/// That a part comes back with the peeked completion, where what is held and that are as much as is missing.
+fn peeked_loss(side: &Side, part: Part) -> Option<Loss> {
     let peeked = peeked_of(side.mode().unwrap_or(unlocked()));
     let owned = owned_of(side.program(), peeked, part)?;
     let is_met = match (part, owned) {
@@ -76,7 +72,11 @@ fn peeked_part(side: &Side, part: Part) -> Option<Part> {
         (Part::Credits(count), _) => side.credits().saturating_add(1) >= count,
         _ => true,
     };
-    is_met.then_some(owned)
+    let loss = match peeked {
+        Peeked::Got => Loss::Got(owned),
+        _ => Loss::Peeked(owned),
+    };
+    is_met.then_some(loss)
 }
 
 fn known_on(side: &Side, part: Part) -> Known {
@@ -278,8 +278,8 @@ impl Ways<'_> {
 pub fn loss_of(refused: Refused, missing: Missing) -> Loss {
     let Missing { part, zero, .. } = missing;
     if let Some(state) = refused.state() {
-        if let Some(owned) = peeked_part(state.on(zero), part) {
-            return Loss::Peeked(owned);
+        if let Some(loss) = peeked_loss(state.on(zero), part) {
+            return loss;
         }
     }
     let ways = Ways { refused, part };
