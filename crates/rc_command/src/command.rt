@@ -75,7 +75,8 @@ pub fn command<'a, R: Threads + Wait + Sync, I: Read + Drop, O: Write + Drop, E:
     command_over(host, &NoTexts, asked, reader, output, errors)
 }
 
-/// The exit status of an answer. If there is none, a line of `errors` says why, unless the reader has closed the output.
+/// Turns an answer into the exit status. An error is written to `errors` as one line, but not if the reader has closed
+/// the output.
 fn ended<E: Sink>(
     alloc: Global,
     answer: Result<u8, CommandFault>,

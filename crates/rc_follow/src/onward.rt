@@ -12,7 +12,7 @@ use crate::room::{Room, is_there};
 use rc_log::call::Call;
 use std::alloc::AllocError;
 
-/// Where fewer worlds than these are still to be looked at, a search keeps in mind only those at the ends of loops' turns.
+/// Where fewer worlds than these are still to be looked at, a search remembers only those at the ends of loops' turns.
 const FEW_WORLDS: usize = 8;
 
 /// Goes on from a world after many steps, so that the search looks at other worlds too.

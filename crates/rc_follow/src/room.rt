@@ -9,8 +9,7 @@ use crate::spent::{Purpose, SpentWorlds};
 use rc_world::world::weak::Lists;
 use std::alloc::{AllocError, Global};
 
-/// The worlds that a search has seen, as far as it keeps them in mind; those from which searches found nothing more; and
-/// spare worlds.
+/// The worlds that a search has seen and remembers, those from which searches found nothing more, and spare worlds.
 #[derive(Drop)]
 pub struct Room<'a> {
     seen: Vec<Node<'a>>,
@@ -74,7 +73,7 @@ impl<'a> Room<'a> {
         Ok(false)
     }
 
-    /// How many worlds it has seen and keeps in mind.
+    /// How many of the worlds that it has seen it remembers.
     pub fn seen(&self) -> usize {
         self.seen.len()
     }
@@ -90,7 +89,7 @@ impl<'a> Room<'a> {
         self.spent.clear();
     }
 
-    /// Keeps in mind the world in which the search made the call first.
+    /// Remembers the world in which the search made the call first.
     pub fn note_first(&mut self, alloc: Global, node: &Node<'a>) -> Result<(), AllocError> {
         let again = self.copy(alloc, node)?;
         self.first = Some(again);

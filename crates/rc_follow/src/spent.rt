@@ -1,5 +1,5 @@
-//! Worlds in which a call was made, and from which going on without it led to nothing else. They are kept in mind, so that
-//! the search for a later line that comes to a world like one of them doesn't go on from there.
+//! Worlds in which a call was made, and from which going on without it led to nothing else. They are remembered: a search
+//! for a later line that reaches a world like one of them stops there.
 
 use crate::alike::are_alike;
 use crate::node::Node;
@@ -74,16 +74,16 @@ struct Spent<'a> {
     node: Node<'a>,
 }
 
-/// The worlds that are kept, the oldest of which gives way to a new one.
+/// A bounded set of worlds. When it is full, a new world replaces the oldest.
 #[derive(Drop)]
 pub struct SpentWorlds<'a> {
     known: Vec<Spent<'a>>,
-    // The place that the next world takes once there is no room for more.
+    // Where the next world goes when the set is full.
     next: usize,
 }
 
 impl<'a> SpentWorlds<'a> {
-    /// None.
+    /// An empty set.
     pub fn new(alloc: Global) -> SpentWorlds<'a> {
         SpentWorlds {
             known: Vec::new(alloc),
@@ -105,7 +105,7 @@ impl<'a> SpentWorlds<'a> {
         false
     }
 
-    /// Keeps one more in mind. Answers the world that is forgotten for it, if there is no room.
+    /// Adds a world. Returns the one that it replaces, if there was no room.
     pub fn keep(
         &mut self,
         purpose: Purpose,

@@ -54,8 +54,8 @@ pub enum TokenKind {
     Other,
 }
 
-/// A token: the user data of a request, and what that request may be: of the kind that its line says first, or of one of
-/// those after `or`, no two of which are of one word and one buffer.
+/// A token: the user data of a request, and the kinds that the request can have: `kind`, the first on its line, and
+/// `others`, those after `or`. No two of them have both the same word and the same buffer.
 #[derive(Clone, Copy)]
 pub struct Token {
     pub user_data: u64,
