@@ -1,0 +1,210 @@
+//! What a replay gives: holdings, events and runs, each that is the same once.
+
+use crate::ledger::Share;
+use crate::names::short;
+use crate::replayed::{Act, Event, Held, Holding, Run};
+use crate::shapes::{Deed, Shape, put_words};
+use crate::stage::{Stage, Stock};
+use indexmap::{IndexMap, IndexSet};
+use std::alloc::{AllocError, Global};
+
+/// What an event is made of.
+#[derive(Clone, Copy)]
+pub enum Origin {
+    /// An event of a log, by its shape.
+    Shape(u32),
+    /// A put that no log has, by its number.
+    Stock(u32),
+}
+
+/// An event: what it is made of, what it moves, and what was held before and after.
+#[derive(Clone, Copy)]
+pub struct Done {
+    pub origin: Origin,
+    pub thing: Option<u32>,
+    pub before: u32,
+    pub after: u32,
+}
+
+/// The most parts of all holdings.
+const MOST_PARTS: usize = 16_000_000;
+
+/// What a replay gives.
+#[derive(Drop)]
+pub struct Outcome {
+    holding_keys: IndexSet<Vec<u8>>,
+    pub holdings: Vec<Holding>,
+    /// How many parts they have.
+    parts: usize,
+    /// Each event, by whether no log has it, its shape, its thing, and what was held before and after.
+    keys: IndexMap<(bool, u32, Option<u32>, u32, u32), bool>,
+    done: Vec<Done>,
+    pub runs: Vec<Run>,
+}
+
+/// The key of a holding.
+fn holding_key(alloc: Global, shares: &[Share]) -> Result<Vec<u8>, AllocError> {
+    let mut key = Vec::new(alloc);
+    for share in shares {
+        put_words(&mut key, &[share.part, share.count])?;
+    }
+    Ok(key)
+}
+
+/// The holding of these shares.
+fn holding_of(stage: Stage<'_>, shares: &[Share]) -> Result<Holding, AllocError> {
+    let mut parts = Vec::new(stage.ground.alloc);
+    for share in shares {
+        parts.push(Held {
+            part: stage.part_at(share.part),
+            count: share.count,
+        })?;
+    }
+    Ok(Holding { parts })
+}
+
+impl Outcome {
+    /// Nothing.
+    pub fn new(alloc: Global) -> Outcome {
+        Outcome {
+            holding_keys: IndexSet::new(alloc),
+            holdings: Vec::new(alloc),
+            parts: 0,
+            keys: IndexMap::new(alloc),
+            done: Vec::new(alloc),
+            runs: Vec::new(alloc),
+        }
+    }
+
+    /// Whether there are so many holdings that no more are kept.
+    pub fn is_full(&self) -> bool {
+        self.parts > MOST_PARTS
+    }
+
+    /// The number of a holding, which is added where it is new.
+    pub fn holding(&mut self, stage: Stage<'_>, shares: &[Share]) -> Result<u32, AllocError> {
+        let key = holding_key(stage.ground.alloc, shares)?;
+        if let Some(number) = self.holding_keys.get_index_of(key.as_slice()) {
+            return Ok(short(number));
+        }
+        let number = short(self.holdings.len());
+        self.parts = self.parts.saturating_add(shares.len());
+        self.holdings.push(holding_of(stage, shares)?)?;
+        self.holding_keys.insert(key)?;
+        Ok(number)
+    }
+
+    /// The number of an event, which is added where it is new.
+    pub fn event(&mut self, done: Done) -> Result<u32, AllocError> {
+        let (is_stock, number) = match done.origin {
+            Origin::Shape(number) => (false, number),
+            Origin::Stock(number) => (true, number),
+        };
+        let key = (is_stock, number, done.thing, done.before, done.after);
+        if let Some(number) = self.keys.get_index_of(&key) {
+            return Ok(short(number));
+        }
+        let number = short(self.done.len());
+        self.done.push(done)?;
+        self.keys.insert(key, true)?;
+        Ok(number)
+    }
+
+    /// The events.
+    pub fn events(&self, stage: Stage<'_>, stocks: &[Stock]) -> Result<Vec<Event>, AllocError> {
+        let mut events = Vec::new(stage.ground.alloc);
+        for done in &self.done {
+            let event = match done.origin {
+                Origin::Shape(number) => shaped(stage, *done, number)?,
+                Origin::Stock(number) => stocked(stage, stocks, *done, number)?,
+            };
+            events.push(event)?;
+        }
+        Ok(events)
+    }
+}
+
+/// An event of a log.
+fn shaped(stage: Stage<'_>, done: Done, number: u32) -> Result<Event, AllocError> {
+    match stage.shapes.at(number) {
+        Some(shape) => event_of(shape, done),
+        None => nothing(stage.ground.alloc, done),
+    }
+}
+
+/// An event of this shape.
+fn event_of(shape: &Shape, done: Done) -> Result<Event, AllocError> {
+    Ok(Event {
+        act: act_of(&shape.deed, done.thing)?,
+        before: done.before,
+        after: done.after,
+        is_unlocked: shape.is_unlocked,
+        place: shape.place,
+        places: shape.places.clone()?,
+    })
+}
+
+/// An event that says nothing.
+fn nothing(alloc: Global, done: Done) -> Result<Event, AllocError> {
+    Ok(Event {
+        act: Act::Cut,
+        before: done.before,
+        after: done.after,
+        is_unlocked: false,
+        place: 0,
+        places: Vec::new(alloc),
+    })
+}
+
+/// A put that no log has.
+fn stocked(
+    stage: Stage<'_>,
+    stocks: &[Stock],
+    done: Done,
+    number: u32,
+) -> Result<Event, AllocError> {
+    let alloc = stage.ground.alloc;
+    let Some(stock) = stocks.get(number as usize) else {
+        return nothing(alloc, done);
+    };
+    let mut places = Vec::new(alloc);
+    places.push(stock.place)?;
+    Ok(Event {
+        act: Act::Put {
+            pool: stock.pool,
+            thing: done.thing,
+        },
+        before: done.before,
+        after: done.after,
+        is_unlocked: false,
+        place: stock.place,
+        places,
+    })
+}
+
+/// What a thread does, with the thing that it moves.
+fn act_of(deed: &Deed, thing: Option<u32>) -> Result<Act, AllocError> {
+    match deed {
+        Deed::Send { requests, submit } => Ok(Act::Send {
+            requests: requests.clone()?,
+            submit: *submit,
+        }),
+        Deed::Cut { requests: _ } => Ok(Act::Cut),
+        Deed::Submit(submit) => Ok(Act::Submit(*submit)),
+        Deed::Reap {
+            token,
+            class,
+            is_early,
+        } => Ok(Act::Reap {
+            token: *token,
+            class: *class,
+            is_early: *is_early,
+        }),
+        Deed::Seen { token } => Ok(Act::Seen { token: *token }),
+        Deed::Put { pool, buffer: _ } => Ok(Act::Put { pool: *pool, thing }),
+        Deed::Take { pool, buffer: _ } => Ok(Act::Take { pool: *pool, thing }),
+        Deed::Fill(buffer) => Ok(Act::Fill(*buffer)),
+        Deed::Load(buffer) => Ok(Act::Load(*buffer)),
+        Deed::End => Ok(Act::End),
+    }
+}
