@@ -1,6 +1,7 @@
 'use strict';
 // Ringcheck in VS Code: what `ringcheck lsp` says of the open models, handed to VS Code's API. It needs no package and no
 // build step.
+const { execFile } = require('child_process');
 const fs = require('fs');
 const path = require('path');
 const { pathToFileURL } = require('url');
@@ -185,9 +186,9 @@ const RENAME = {
 };
 
 const ACTIONS = {
-    provideCodeActions: (of, range, context, token) => {
+    provideCodeActions: async (of, range, context, token) => {
         const params = { textDocument: document(of), range: { start: range.start, end: range.end }, context: { diagnostics: [] } };
-        return ask('codeAction', params, token, each(toCodeAction));
+        return [...((await ask('codeAction', params, token, each(toCodeAction))) || []), ...drafting(of)];
     },
 };
 
@@ -270,8 +271,50 @@ async function find() {
     }
 }
 
+// ---- drafts. The server opens no files, so the program itself is run.
+
+function program() {
+    return vscode.workspace.getConfiguration(LANGUAGE).get('path');
+}
+
+// The logs beside a document, if it is in a folder.
+function logsBeside(of) {
+    if (of.uri.scheme !== 'file') {
+        return [];
+    }
+    const folder = path.dirname(of.uri.fsPath);
+    return fs.readdirSync(folder).filter((name) => name.endsWith('.log')).map((name) => path.join(folder, name));
+}
+
+// The action that drafts a model from these logs, if there are any.
+function drafting(of) {
+    if (!logsBeside(of).length) {
+        return [];
+    }
+    const made = new vscode.CodeAction('Draft from the logs beside this file', vscode.CodeActionKind.RefactorRewrite);
+    made.command = { command: 'ringcheck.draft', title: made.title };
+    return [made];
+}
+
+// Opens a model that is drafted from the logs beside the document, and says what comes out.
+function draft() {
+    const editor = vscode.window.activeTextEditor;
+    const logs = editor ? logsBeside(editor.document) : [];
+    if (!logs.length) {
+        vscode.window.showErrorMessage('there is no .log beside this file');
+        return;
+    }
+    execFile(program(), ['draft', ...logs], { maxBuffer: 2 ** 26 }, async (failed, text, told) => {
+        output.clear();
+        output.appendLine(told || String(failed));
+        output.show(true);
+        if (text) {
+            await vscode.window.showTextDocument(await vscode.workspace.openTextDocument({ language: LANGUAGE, content: text }));
+        }
+    });
+}
+
 async function activate(context) {
-    const program = vscode.workspace.getConfiguration(LANGUAGE).get('path');
     diagnostics = vscode.languages.createDiagnosticCollection(LANGUAGE);
     output = vscode.window.createOutputChannel('Ringcheck');
     const told = (method, params) => {
@@ -279,8 +322,8 @@ async function activate(context) {
             diagnostics.set(vscode.Uri.parse(params.uri), params.diagnostics.map(toDiagnostic));
         }
     };
-    const ended = (why) => vscode.window.showErrorMessage(`${program} lsp: ${why}`);
-    client = new Client(program, ['lsp'], told, ended);
+    const ended = (why) => vscode.window.showErrorMessage(`${program()} lsp: ${why}`);
+    client = new Client(program(), ['lsp'], told, ended);
     const initializationOptions = fs.existsSync(path.join(DOCS, 'causes.md')) ? { docs: pathToFileURL(DOCS).href } : {};
     await client.request('initialize', {
         processId: process.pid,
@@ -289,8 +332,9 @@ async function activate(context) {
         capabilities: CAPABILITIES,
     });
     client.notify('initialized', {});
-    const command = vscode.commands.registerCommand('ringcheck.find', find);
-    context.subscriptions.push(diagnostics, output, command, ...providers(), ...follow());
+    const commands = Object.entries({ 'ringcheck.find': find, 'ringcheck.draft': draft });
+    const made = commands.map(([name, call]) => vscode.commands.registerCommand(name, call));
+    context.subscriptions.push(diagnostics, output, ...made, ...providers(), ...follow());
 }
 
 function deactivate() {

@@ -21,7 +21,7 @@ use Rattle.rc_report.specs.Streams.{Given, Taken}
 use Rattle.rc_report.proofs.Answered.{of_any, of_text}
 use Rattle.rc_report.proofs.Pieces.{append-[]}
 use Rattle.rc_console.specs.declared.command.Command.{Command}
-use Rattle.rc_console.specs.declared.command.Command.TheVariants.{Check, Explain, Keeps, Step, Find, Run, Emit, Follow, Format, Serve, Show}
+use Rattle.rc_console.specs.declared.command.Command.TheVariants.{Check, Explain, Keeps, Step, Find, Run, Emit, Follow, Draft, Format, Serve, Show}
 use Rattle.rc_console.specs.declared.fault.CommandFault.{CommandFault}
 use Rattle.rc_console.specs.declared.fault.CommandFault.TheVariants.{Words, Engine, NoEnd, OtherProgram}
 use Rattle.rc_console.specs.declared.files.Unread.{Unread}
@@ -82,6 +82,7 @@ within file Emit bytes s text h = elim h [
   | inr (verdict, given, says) ↦ verdict_within verdict s says.1
 ]
 within file (Follow asked) bytes s text h = omega (arith, h.1)
+within file (Draft asked) bytes s text h = omega (arith, h.1)
 within file Format bytes s text h = omega (arith, h.1)
 within file Serve bytes s text h = omega (arith, h.1)
 within file (Show shown) bytes s text h = omega (arith, h.1)
@@ -127,6 +128,7 @@ says_of_all file (Run seed limit summary) kept bytes s text enough h =
     admitted_of_all file kept bytes (λ (program : Program). SaysRun program limit summary) s text (enough_answers kept bytes enough) h
 says_of_all file Emit kept bytes s text enough h = admitted_of_all file kept bytes (λ (program : Program) (status : ℕ) (told : List ℕ). status ≡ 0) s text (enough_answers kept bytes enough) h
 says_of_all file (Follow asked) kept bytes s text enough h = h
+says_of_all file (Draft asked) kept bytes s text enough h = h
 says_of_all file Format kept bytes s text enough h = subst (λ given. SaysLaidOut given s text) (sym enough) h
 says_of_all file Serve kept bytes s text enough h = h
 says_of_all file (Show shown) kept bytes s text enough h = h
@@ -182,6 +184,7 @@ asked (Find search) old new r h = h
 asked (Run seed limit summary) old new r h = h
 asked Emit old new r h = h
 asked (Follow logs) old new r h = h
+asked (Draft logs) old new r h = h
 asked Format old new r h = h
 asked Serve old new r h = h
 asked (Show text) old new r h = tt

@@ -13,6 +13,7 @@ use Rattle.rc_report.specs.Streams.{OfBytes, Taken, Wrote}
 use Rattle.rc_report.proofs.Pieces.{append-[], appends_both, wrote_none}
 use Rattle.rc_console.specs.declared.command.Asked.{Asked}
 use Rattle.rc_console.specs.declared.command.Command.{Command}
+use Rattle.rc_console.specs.declared.command.Drafting.{Drafting}
 use Rattle.rc_console.specs.declared.command.Following.{Following}
 use Rattle.rc_console.specs.declared.fault.CommandFault.{CommandFault}
 use Rattle.rc_console.specs.declared.fault.CommandFault.TheVariants.{Words, Engine, NoEnd, OtherProgram}
@@ -21,13 +22,14 @@ use Rattle.rc_console.specs.declared.words.WordsFault.{WordsFault}
 use Rattle.rc_console.specs.Answers.{Fails}
 use Rattle.rc_console.specs.Files.{Answered, AnswersAs, IsTold, Said, SaysAll, ToldSome, line_told, together}
 use Rattle.rc_console.specs.Outputs.{IsWrittenOut, written_by}
-use Rattle.rc_console.specs.Words.{following, is_server, with_moves}
+use Rattle.rc_console.specs.Words.{drafting, following, is_server, with_moves}
 use Rattle.rc_console.proofs.FileAnswers.{told_none}
 use Rattle.rc_command.specs.Answers.{AsksFile, NoAnswer, Says, SaysText, WithNotes, may_report}
 use Rattle.rc_console.specs.Faults.{is_hung_up, reason_line}
-use Rattle.rc_command.specs.Commands.{Answers, Ends, Finishes, Gives, Leaves, LeavesOr, Opens, SaysChecked, SaysCommand, SaysFiles, SaysFirst, SaysFollowing, SaysInput, SaysModels, SaysMoved, SaysWith, SaysWords, Serves, TellsUnless}
+use Rattle.rc_command.specs.Commands.{Answers, Ends, Finishes, Gives, Leaves, LeavesOr, Opens, SaysChecked, SaysCommand, SaysDrafting, SaysFiles, SaysFirst, SaysFollowing, SaysInput, SaysModels, SaysMoved, SaysWith, SaysWithModel, SaysWords, Serves, TellsUnless}
 use Rattle.rc_command.specs.Checking.{ChecksFile, telling_of}
 use Rattle.rc_command.specs.declared.checking.Telling.{Telling}
+use Rattle.rc_command.specs.Drafting.{SaysDraft}
 use Rattle.rc_command.specs.Following.{AnswersWhole, SaysAsked}
 
 -- ---- this says that
@@ -161,13 +163,21 @@ whole_is_answered says state old new told before after status (said, h, is, wrot
 -- ---- which of them is asked for
 
 module _ (gives : Gives) (opens : Opens) (input : Option (List ℕ)) (command : Command) (names : List (Bor (List ℕ))) where
-  pub of_logs : (asked : Option (Bor Following)) (logs : Bor Following) → option_copied asked ≡ following command → asked ≡ Some logs → (said : Said) → SaysAsked gives opens logs.now input said → SaysCommand gives opens input command names said
+  pub of_logs : (asked : Option (Bor Following)) (logs : Bor Following) → option_copied asked ≡ following command → asked ≡ Some logs → (said : Said) → SaysAsked gives opens logs.now input said → SaysWithModel gives opens input command names said
   of_logs asked logs is some said h =
       subst (λ (f : Option Following). SaysFollowing gives opens input f (SaysModels gives input command names) said) (sym (ap (λ (o : Option (Bor Following)). option_copied o) some) ∙ is) h
 
-  pub of_models : (asked : Option (Bor Following)) → option_copied asked ≡ following command → asked ≡ None → (said : Said) → SaysModels gives input command names said → SaysCommand gives opens input command names said
+  pub of_models : (asked : Option (Bor Following)) → option_copied asked ≡ following command → asked ≡ None → (said : Said) → SaysModels gives input command names said → SaysWithModel gives opens input command names said
   of_models asked is none said h =
       subst (λ (f : Option Following). SaysFollowing gives opens input f (SaysModels gives input command names) said) (sym (ap (λ (o : Option (Bor Following)). option_copied o) none) ∙ is) h
+
+  pub of_draft : (asked : Option (Bor Drafting)) (logs : Bor Drafting) → option_copied asked ≡ drafting command → asked ≡ Some logs → (said : Said) → SaysDraft opens logs.now said → SaysCommand gives opens input command names said
+  of_draft asked logs is some said h =
+      subst (λ (d : Option Drafting). SaysDrafting opens d (SaysWithModel gives opens input command names) said) (sym (ap (λ (o : Option (Bor Drafting)). option_copied o) some) ∙ is) h
+
+  pub of_no_draft : (asked : Option (Bor Drafting)) → option_copied asked ≡ drafting command → asked ≡ None → (said : Said) → SaysWithModel gives opens input command names said → SaysCommand gives opens input command names said
+  of_no_draft asked is none said h =
+      subst (λ (d : Option Drafting). SaysDrafting opens d (SaysWithModel gives opens input command names) said) (sym (ap (λ (o : Option (Bor Drafting)). option_copied o) none) ∙ is) h
 
 module _ (gives : Gives) (input : Option (List ℕ)) (command : Command) where
   pub of_input : (names : List (Bor (List ℕ))) → (length names == 0) ≡ true → (said : Said) → SaysInput input command said → SaysModels gives input command names said

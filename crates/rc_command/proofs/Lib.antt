@@ -1,4 +1,5 @@
 mod Commands
+pub mod Drafts
 mod Enough
 pub mod Following
 pub mod Leaving

@@ -25,7 +25,7 @@ use Rattle.rc_console.specs.declared.command.Command.{Command}
 use Rattle.rc_console.specs.declared.command.FoundAs.{FoundAs}
 use Rattle.rc_console.specs.declared.command.Searching.{Searching}
 use Rattle.rc_console.specs.declared.command.FoundAs.TheVariants as form
-use Rattle.rc_console.specs.declared.command.Command.TheVariants.{Check, Explain, Keeps, Step, Find, Run, Emit, Follow, Format, Serve, Show}
+use Rattle.rc_console.specs.declared.command.Command.TheVariants.{Check, Explain, Keeps, Step, Find, Run, Emit, Follow, Draft, Format, Serve, Show}
 use Rattle.rc_console.specs.declared.fault.CommandFault.{CommandFault}
 use Rattle.rc_console.specs.declared.fault.CommandFault.TheVariants.{Words, Engine, NoEnd, OtherProgram}
 use Rattle.rc_console.specs.declared.files.Unread.{Unread}
@@ -109,8 +109,8 @@ SaysLaidOut bytes status text = IsLaidOut bytes text × (status ≡ 0)
 
 -- The status of `check` is that of the verdict on the bytes, which is written. `--explain` writes what explains it too, and
 -- `find` a run of a refused program into a fault, where it was found. What the C of a program is no contract says. `follow`
--- reads its text and the logs itself and a server no text, so both have nothing to say of one text. Files that are checked
--- are answered apart, with their names.
+-- reads its text and the logs itself, and `draft` and a server read no text, so these have nothing to say of one text.
+-- Files that are checked are answered apart, with their names.
 abbrev pub Says : Option (List ℕ) → Command → List ℕ → ℕ → List ℕ → Type 0
 Says file (Check json) bytes status text = SaysVerdict (TellsVerdict None bytes json) status text
 Says file (Explain form) bytes status text = SaysVerdict (Explains bytes None form) status text
@@ -121,6 +121,7 @@ Says file (Run seed limit summary) bytes status text =
     SaysAdmitted file bytes (λ program. SaysRun program limit summary) status text
 Says file Emit bytes status text = SaysAdmitted file bytes (λ program status text. status ≡ 0) status text
 Says file (Follow asked) bytes status text = (text ≡ []) × (status ≡ 3)
+Says file (Draft asked) bytes status text = (text ≡ []) × (status ≡ 3)
 Says file Format bytes status text = SaysLaidOut bytes status text
 Says file Serve bytes status text = (text ≡ []) × (status ≡ 3)
 Says file (Show shown) bytes status text = (text ≡ string_bytes shown) × (status ≡ 0)

@@ -8,6 +8,7 @@ use Rattle.rc_report.specs.declared.streams.WriteSink.{WriteSink}
 use Rattle.rc_report.specs.Streams.{OfBytes, Taken}
 use Rattle.rc_console.specs.declared.command.Asked.{Asked}
 use Rattle.rc_console.specs.declared.command.Command.{Command}
+use Rattle.rc_console.specs.declared.command.Drafting.{Drafting}
 use Rattle.rc_console.specs.declared.command.Following.{Following}
 use Rattle.rc_console.specs.declared.fault.CommandFault.{CommandFault}
 use Rattle.rc_console.specs.declared.fault.CommandFault.TheVariants.{Words, Engine}
@@ -18,10 +19,11 @@ use Rattle.rc_console.specs.Files.{Answered, IsTold, Said, SaysAll, SaysFile, To
 pub use Rattle.rc_report.specs.Buffers.{kept_back}
 use Rattle.rc_console.specs.Outputs.{IsWrittenOut}
 pub use Rattle.rc_console.specs.Outputs.{put_out}
-use Rattle.rc_console.specs.Words.{HasRanges, following, is_server, with_moves}
+use Rattle.rc_console.specs.Words.{HasRanges, drafting, following, is_server, with_moves}
 use Rattle.rc_command.specs.declared.checking.Telling.{Telling}
 use Rattle.rc_command.specs.Answers.{AsksFile, NoAnswer, SaysText}
 use Rattle.rc_command.specs.Checking.{ChecksFile, telling_of}
+use Rattle.rc_command.specs.Drafting.{SaysDraft}
 use Rattle.rc_command.specs.Following.{SaysAsked}
 
 -- What reading and opening the file of a name may give.
@@ -58,9 +60,18 @@ abbrev pub SaysFollowing : Gives → Opens → Option (List ℕ) → Option Foll
 SaysFollowing gives opens input None says said = says said
 SaysFollowing gives opens input (Some asked) says said = SaysAsked gives opens asked input said
 
+abbrev pub SaysWithModel : Gives → Opens → Option (List ℕ) → Command → List (Bor (List ℕ)) → Said → Type 0
+SaysWithModel gives opens input command names said =
+    SaysFollowing gives opens input (following command) (SaysModels gives input command names) said
+
+-- `draft` has its logs, and no model.
+abbrev pub SaysDrafting : Opens → Option Drafting → (Said → Type 0) → Said → Type 0
+SaysDrafting opens None says said = says said
+SaysDrafting opens (Some asked) says said = SaysDraft opens asked said
+
 abbrev pub SaysCommand : Gives → Opens → Option (List ℕ) → Command → List (Bor (List ℕ)) → Said → Type 0
 SaysCommand gives opens input command names said =
-    SaysFollowing gives opens input (following command) (SaysModels gives input command names) said
+    SaysDrafting opens (drafting command) (SaysWithModel gives opens input command names) said
 
 -- Moves that are in a file are read before the model.
 abbrev pub SaysMoved : Gives → (Vec ℕ → Said → Type 0) → List ℕ → Said → Type 0

@@ -1,7 +1,8 @@
 //! The whole program, over any reader and writers.
 
 ghost use Rattle.std.specs.Prelude.{◌≡◌, ◌≤◌, IfOk, IsErr, []};
-ghost use Rattle.rc_command.specs.Commands.{Answers, Ends, Leaves, LeavesOr, Runs, SaysCommand, SaysModels, SaysMoved, SaysWords, Serves};
+ghost use Rattle.rc_command.specs.Commands.{Answers, Ends, Leaves, LeavesOr, Runs, SaysCommand, SaysModels, SaysMoved, SaysWithModel, SaysWords, Serves};
+ghost use Rattle.rc_command.specs.Drafting.{SaysDraft};
 ghost use Rattle.rc_command.specs.Following.{SaysAsked};
 ghost use Rattle.rc_console.specs.Outputs.{put_out, written_by};
 ghost use Rattle.rc_console.specs.Words.{is_server, with_moves};
@@ -9,9 +10,10 @@ ghost use Rattle.rc_report.specs.Buffers.{kept_back};
 
 use crate::departures::answers::follow_logs;
 use crate::departures::logs::Logs;
+use crate::drafting::answers::draft_logs;
 use crate::models::{finished, from_files, from_input};
 use crate::running::Host;
-use rc_console::command::{Asked, Command, Following, with_moves};
+use rc_console::command::{Asked, Command, Drafting, Following, with_moves};
 use rc_console::fault::CommandFault;
 use rc_console::files::{NoTexts, Texts, tell_unread};
 use rc_console::inputs::Extent;
@@ -209,7 +211,7 @@ fn moved<'a, R: Threads + Wait + Sync, T: Texts + Logs, I: Read + Drop, O: Write
     }
 }
 
-/// Does what is asked with logs, with the text of the reader, or with those of files.
+/// Does what is asked with logs alone, or with a model.
 fn written<R: Threads + Wait + Sync, T: Texts + Logs, I: Read + Drop, O: Write + Drop, E: Sink>(
     host: &Host<'_, R>,
     texts: &T,
@@ -223,6 +225,28 @@ fn written<R: Threads + Wait + Sync, T: Texts + Logs, I: Read + Drop, O: Write +
     requires writes { sink.old.sink.failures ≡ 0 }
     requires told { (E.state errors.old).failures ≡ 0 }
     ensures answer { Leaves (SaysCommand (T.gives texts.now) (T.opens texts.now) (I.remaining reader) command.now files.now) (written_by O.contents) sink.old sink.new (E.state errors.old) (E.state errors.new) result }
+    ensures bound { IfOk result (λ status. status ≤ 3) }
+{
+    match command.drafting() {
+        Some(asked) => drafted(host.alloc, texts, asked, sink, errors),
+        None => with_model(host, texts, command, files, reader, sink, errors),
+    }
+}
+
+/// Does what is asked with logs, with the text of the reader, or with those of files.
+fn with_model<R: Threads + Wait + Sync, T: Texts + Logs, I: Read + Drop, O: Write + Drop, E: Sink>(
+    host: &Host<'_, R>,
+    texts: &T,
+    command: &Command<'_>,
+    files: &[&str],
+    reader: I,
+    sink: &mut Buffered<WriteSink<O>>,
+    errors: &mut E,
+) -> Result<u8, CommandFault>
+    requires empty { kept_back sink.old ≡ [] }
+    requires writes { sink.old.sink.failures ≡ 0 }
+    requires told { (E.state errors.old).failures ≡ 0 }
+    ensures answer { Leaves (SaysWithModel (T.gives texts.now) (T.opens texts.now) (I.remaining reader) command.now files.now) (written_by O.contents) sink.old sink.new (E.state errors.old) (E.state errors.new) result }
     ensures bound { IfOk result (λ status. status ≤ 3) }
 {
     match command.following() {
@@ -270,4 +294,22 @@ fn followed<T: Texts + Logs, I: Read + Drop, O: Write + Drop, E: Sink>(
 {
     let status = follow_logs(texts, alloc, reader, asked, sink, errors)?;
     finished(status, sink, b"", errors)
+}
+
+/// Drafts a model from logs, and sees that the answer is written out.
+fn drafted<T: Texts + Logs, O: Write + Drop, E: Sink>(
+    alloc: Global,
+    texts: &T,
+    asked: &Drafting<'_>,
+    sink: &mut Buffered<WriteSink<O>>,
+    errors: &mut E,
+) -> Result<u8, CommandFault>
+    requires empty { kept_back sink.old ≡ [] }
+    requires writes { sink.old.sink.failures ≡ 0 }
+    requires told { (E.state errors.old).failures ≡ 0 }
+    ensures answer { Leaves (SaysDraft (T.opens texts.now) asked.now) (written_by O.contents) sink.old sink.new (E.state errors.old) (E.state errors.new) result }
+    ensures bound { IfOk result (λ status. status ≤ 3) }
+{
+    let status = draft_logs(texts, alloc, asked, sink, errors)?;
+    finished(status, sink, &[], errors)
 }

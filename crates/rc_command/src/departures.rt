@@ -1,12 +1,13 @@
 //! Logs, held to a program from their first line to their last, and what is printed of them.
 
-mod answer;
+pub mod answer;
 pub mod answers;
 pub mod ending;
 pub mod following;
 pub mod logs;
-mod object;
+pub mod object;
 mod places_text;
 pub mod printed;
+pub mod telling;
 mod unmade;
 mod why;

@@ -4,6 +4,7 @@
 pub mod checking;
 pub mod command;
 pub mod departures;
+pub mod drafting;
 pub mod emitting;
 mod formatting;
 pub mod keeping;

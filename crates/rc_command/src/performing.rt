@@ -53,7 +53,9 @@ pub fn performed<R: Threads + Wait + Sync, S: Sink>(
             summary,
         } => run_text(host, file, text, *seed, *limit, *summary, sink),
         Command::Emit => emit_text(alloc, file, text, sink),
-        Command::Follow(_) | Command::Serve => write_answer(sink, b"", DEVICE_STATUS),
+        Command::Follow(_) | Command::Draft(_) | Command::Serve => {
+            write_answer(sink, b"", DEVICE_STATUS)
+        }
         Command::Format => format_text(alloc, text, sink),
         Command::Show(shown) => write_answer(sink, shown.as_bytes(), GOOD_STATUS),
     }

@@ -52,6 +52,19 @@ pub struct Following<'a> {
     pub logs: Vec<&'a str>,
 }
 
+/// What `draft` is asked for.
+#[derive(Drop)]
+pub struct Drafting<'a> {
+    /// Whether its answer is one JSON object.
+    pub json: bool,
+    /// Whether it prints the notes alone.
+    pub notes: bool,
+    /// Whether each thread is drafted in the loop form.
+    pub loops: bool,
+    /// The files with the logs.
+    pub logs: Vec<&'a str>,
+}
+
 /// What the program is asked to do.
 #[derive(Drop)]
 pub enum Command<'a> {
@@ -80,6 +93,8 @@ pub enum Command<'a> {
     Emit,
     /// Follow logs in the program. Its model is read apart from those of other commands.
     Follow(Following<'a>),
+    /// Draft a model from logs. This reads no model.
+    Draft(Drafting<'a>),
     /// Print the model with its blocks indented.
     Format,
     /// Answer the messages of an editor. This reads no model.
@@ -104,6 +119,16 @@ impl<'a> Command<'a> {
     {
         match self {
             Command::Follow(asked) => Some(asked),
+            _ => None,
+        }
+    }
+
+    /// What `draft` is asked for, if it is that.
+    pub fn drafting(&self) -> Option<&Drafting<'a>>
+        ensures { option_copied result ≡ spec.drafting self.now }
+    {
+        match self {
+            Command::Draft(asked) => Some(asked),
             _ => None,
         }
     }

@@ -175,7 +175,7 @@ pub fn put_unread(
 }
 
 /// Why a file can't be read, in the words of the system and without its number of the error.
-fn words_of(alloc: Global, unread: &Unread) -> Result<String, AllocError> {
+pub fn words_of(alloc: Global, unread: &Unread) -> Result<String, AllocError> {
     let told = format!(in alloc; "{unread}")?;
     without_number(alloc, told.as_str())
 }
@@ -219,7 +219,7 @@ fn write_at_once<E: Sink>(
 }
 
 /// Adds the line that says why a file has no answer.
-fn put_line(line: &mut Vec<u8>, name: &str, why: &str) -> Result<(), AllocError>
+pub fn put_line(line: &mut Vec<u8>, name: &str, why: &str) -> Result<(), AllocError>
     ensures { Puts line.old line.new (line_told name.now why.now) result }
 {
     put_piece(line, b"ringcheck: ")?;

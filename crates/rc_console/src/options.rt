@@ -3,7 +3,7 @@
 ghost use Rattle.std.specs.Prelude.{IfOk};
 ghost use Rattle.rc_console.specs.Words.{HasRanges};
 
-use crate::command::{Command, Following, Form, FoundAs, Searching};
+use crate::command::{Command, Drafting, Following, Form, FoundAs, Searching};
 use crate::words::WordsFault;
 use clap::ArgMatches;
 use rc_report::script::{Script, Show, Stepping};
@@ -29,6 +29,7 @@ pub fn command_of<'a>(
         "keeps" => Ok(Command::Keeps),
         "run" => run_of(alloc, given),
         "c" => Ok(Command::Emit),
+        "draft" => draft_of(alloc, given),
         "follow" => follow_of(alloc, given),
         "fmt" => Ok(Command::Format),
         "lsp" => Ok(Command::Serve),
@@ -51,6 +52,19 @@ fn follow_of<'a>(alloc: Global, follow: &ArgMatches<'a>) -> Result<Command<'a>, 
         json,
         never,
         text,
+        logs,
+    }))
+}
+
+/// The command `draft`.
+fn draft_of<'a>(alloc: Global, draft: &ArgMatches<'a>) -> Result<Command<'a>, WordsFault>
+    ensures { IfOk result HasRanges }
+{
+    let logs = draft.get_strs("log").unwrap_or(&[]).to_vec(alloc)?;
+    Ok(Command::Draft(Drafting {
+        json: draft.get_flag("json"),
+        notes: draft.get_flag("notes"),
+        loops: draft.get_flag("loops"),
         logs,
     }))
 }

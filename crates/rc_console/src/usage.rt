@@ -6,8 +6,8 @@ use std::alloc::{AllocError, Global};
 const VERSION: &str = "0.1.0";
 
 /// The commands, in the order in which help lists them.
-const COMMANDS: [&str; 9] = [
-    "check", "keeps", "step", "find", "run", "c", "follow", "fmt", "lsp",
+const COMMANDS: [&str; 10] = [
+    "check", "keeps", "step", "find", "run", "c", "draft", "follow", "fmt", "lsp",
 ];
 
 /// What is shown after the help of `check`.
@@ -17,6 +17,15 @@ const CHECK_HELP: &str =
 Example: ringcheck check examples/*.rc
 
 docs/causes.md explains the codes of refused and unreadable lines (V1 to V20, P1 to P11).";
+
+/// What is shown after the help of `draft`.
+const DRAFT_HELP: &str =
+    "Exit status: 0 accepted, and all logs followed; 1 refused, a log departs, or with --notes a note; 2 unreadable; 3 full,
+too many candidates or no answer; the greatest.
+
+Example: ringcheck draft run1.log run2.log > model.rc
+
+docs/draft.md says how to read a draft, and what it is worth.";
 
 /// What is shown after the help of `follow`.
 const FOLLOW_HELP: &str =
@@ -239,14 +248,31 @@ fn described_text<'a>(alloc: Global) -> Arg<'a> {
         .help("A file with the model (-: standard input)")
 }
 
-/// The logs of `follow`.
-fn described_logs<'a>(alloc: Global) -> Arg<'a> {
+/// The logs of `draft` or of `follow`.
+fn described_logs<'a>(alloc: Global, help: &'a str) -> Arg<'a> {
     Arg::new(alloc, "log")
         .value_name("LOG")
         .num_args(1..)
         .action(ArgAction::Append)
         .required(true)
-        .help("Logs to follow, with one answer a line")
+        .help(help)
+}
+
+/// The words of `draft`.
+fn described_draft<'a>(alloc: Global) -> Result<clap::Command<'a>, AllocError> {
+    let loops = "Draft each thread as a loop of what it was seen to do";
+    let notes = "Print only what doesn't fit the ownership";
+    let json = "Print one JSON object";
+    let args = vec![in alloc;
+        described_flag(alloc, "loops", loops),
+        described_flag(alloc, "notes", notes),
+        described_flag(alloc, "json", json),
+        described_logs(alloc, "Logs of runs of one program"),
+    ]?;
+    clap::Command::new(alloc, "draft")
+        .about("Draft a model from logged runs of a C program, check it and follow the logs")
+        .after_help(DRAFT_HELP)
+        .args(args)
 }
 
 /// The words of `follow`.
@@ -257,7 +283,7 @@ fn described_follow<'a>(alloc: Global) -> Result<clap::Command<'a>, AllocError> 
         described_flag(alloc, "json", json),
         described_flag(alloc, "never", never),
         described_text(alloc),
-        described_logs(alloc),
+        described_logs(alloc, "Logs to follow, with one answer a line"),
     ]?;
     clap::Command::new(alloc, "follow")
         .about("Check logged runs of a C program against its model")
@@ -287,6 +313,7 @@ fn described_command<'a>(alloc: Global, name: &str) -> Result<clap::Command<'a>,
         "find" => described_find(alloc),
         "run" => described_run(alloc),
         "c" => described_c(alloc),
+        "draft" => described_draft(alloc),
         "follow" => described_follow(alloc),
         "fmt" => described_fmt(alloc),
         _ => Ok(described_lsp(alloc)),

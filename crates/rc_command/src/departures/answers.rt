@@ -9,12 +9,12 @@ use crate::departures::answer::Answer;
 use crate::departures::following::follow_log;
 use crate::departures::logs::Logs;
 use crate::departures::printed::put_unmade;
+use crate::departures::telling::tell_answer;
 use crate::departures::unmade::unmade_calls;
 use rc_console::command::Following;
 use rc_console::fault::CommandFault;
 use rc_console::files::{Texts, Unread, tell_unread};
 use rc_console::inputs::{Extent, read_input};
-use rc_console::output::tell_notes;
 use rc_follow::follower::Follower;
 use rc_lang::program::Program;
 use rc_log::reader::LogFault;
@@ -22,7 +22,6 @@ use rc_report::check_engine::judged;
 use rc_report::source::Lines;
 use rc_report::streams::{ReadSource, Sink};
 use rc_report::verdict::{Verdict, print_verdict};
-use rc_report::writing::write_piece;
 use std::alloc::{AllocError, Global};
 use std::io::Read;
 
@@ -72,9 +71,7 @@ fn follow_model<T: Logs, S: Sink, E: Sink>(
     ensures failures { IfOk result (λ _. (S.state sink.new).failures ≡ (S.state sink.old).failures) }
 {
     let answer = answer_to(texts, alloc, model, asked)?;
-    write_piece(sink, &answer.written)?;
-    tell_notes(&answer.reported, errors);
-    Ok(answer.status)
+    tell_answer(&answer, sink, errors)
 }
 
 /// The answer to a model with its logs.

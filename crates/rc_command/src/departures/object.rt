@@ -70,7 +70,7 @@ fn push_call(calls: &mut Vec<Value>, alloc: Global, line: Line) -> Result<(), Al
 }
 
 /// Adds an object. What isn't shown as it is is as `\u` and four hex digits.
-fn put_object(text: &mut Vec<u8>, alloc: Global, object: &Value) -> Result<(), AllocError>
+pub fn put_object(text: &mut Vec<u8>, alloc: Global, object: &Value) -> Result<(), AllocError>
     ensures { has_float (view object.now) ≡ false → Puts text.old text.new (shown (compact_text (view object.now)) ++ codes "\n") result }
 {
     let object = object.to_string(alloc)?;
@@ -78,7 +78,8 @@ fn put_object(text: &mut Vec<u8>, alloc: Global, object: &Value) -> Result<(), A
     put_piece(text, b"\n")
 }
 
-fn object_of(alloc: Global, log: &str, ending: &Ending) -> Result<Value, AllocError>
+/// How a log ends, as an object.
+pub fn object_of(alloc: Global, log: &str, ending: &Ending) -> Result<Value, AllocError>
     ensures { IfOk result (λ v. view v ≡ ending_object log.now ending.now) }
 {
     match ending {

@@ -32,7 +32,7 @@ pub fn put_ending(
 }
 
 /// Adds how a log ends, as text.
-fn put_ending_text(text: &mut Vec<u8>, log: &str, ending: &Ending) -> Result<(), AllocError>
+pub fn put_ending_text(text: &mut Vec<u8>, log: &str, ending: &Ending) -> Result<(), AllocError>
     ensures { Puts text.old text.new (ending_text log.now ending.now) result }
 {
     put_shown(text, log)?;
