@@ -1,9 +1,15 @@
+pub mod Alike
+pub mod AlikeMoves
 pub mod Answered
+pub mod Closed
 pub mod Counted
 pub mod Listed
 pub mod Reading
 pub mod Repeats
+pub mod Sames
 pub mod Shown
 pub mod Stepped
+pub mod Still
+pub mod Told
 pub mod Waits
 pub mod Words

@@ -1,5 +1,7 @@
 pub mod Choices
+pub mod Closing
 pub mod Finds
+pub mod FindsStuck
 pub mod Harms
 pub mod Laws
 pub mod Moved
@@ -9,3 +11,6 @@ pub mod Repeats
 pub mod Scripts
 pub mod Spelling
 pub mod Stepping
+pub mod Stuck
+pub mod StuckRuns
+pub mod Waits

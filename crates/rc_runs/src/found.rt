@@ -2,7 +2,7 @@
 
 ghost use Rattle.std.specs.Prelude.{◌≡◌, IfOk, None, Some, option_copied as named};
 ghost use Rattle.serde_json.specs.View.{view};
-ghost use Rattle.rc_report.specs.Verdicts.{finding_of};
+ghost use Rattle.rc_report.specs.Verdicts.{finding, finding_of};
 ghost use Rattle.rc_runs.specs.Finds.{found_by, found_json, found_object, found_text, heading, members_of, moves_line, run_by, run_data, run_of, search_text};
 ghost use Rattle.rc_text.specs.Text.{Puts};
 
@@ -11,7 +11,7 @@ use crate::harm::Harm;
 use crate::search::Search;
 use rc_picture::drawing::put_picture;
 use rc_report::shown::put_shown;
-use rc_report::verdict::{Finding, print_verdict};
+use rc_report::verdict::{Finding, Verdict, print_verdict};
 use rc_text::text::{put_counted, put_piece};
 use rc_world::world::World;
 use serde_json::{Value, json};
@@ -19,10 +19,10 @@ use std::alloc::{AllocError, Global};
 
 /// A run as the values of an object.
 #[derive(Drop)]
-struct RunValues {
-    moves: Value,
-    trace: Value,
-    walk: Value,
+pub(crate) struct RunValues {
+    pub(crate) moves: Value,
+    pub(crate) trace: Value,
+    pub(crate) walk: Value,
 }
 
 /// Adds what was found, in words: the verdict, with the file's name if there is one, and for a refused model the run's moves
@@ -104,7 +104,20 @@ pub fn object_of(alloc: Global, file: Option<&str>, found: &Found) -> Result<Val
     ensures { IfOk result (λ v. view v ≡ found_object (named file.entry) found.now) }
 {
     let run = run_values(&found.searched)?;
-    match found.verdict.finding() {
+    found_object_of(alloc, file, &found.verdict, run)
+}
+
+/// The object of a verdict with the values of a run.
+pub(crate) fn found_object_of(
+    alloc: Global,
+    file: Option<&str>,
+    verdict: &Verdict,
+    run: RunValues,
+) -> Result<Value, AllocError>
+    ensures { let values = members_of run.moves run.trace run.walk in
+        IfOk result (λ v. view v ≡ found_by (named file.entry) values (finding verdict.now)) }
+{
+    match verdict.finding() {
         Some(finding) => finding_object(alloc, file, &finding, run),
         None => accepted_object(alloc, file, run),
     }

@@ -70,7 +70,7 @@ pub fn harm_of(
 }
 
 /// The items of the schedule that moves spell, where they can be read.
-fn spelled_items(
+pub fn spelled_items(
     alloc: Global,
     program: &Program,
     moves: &[u8],

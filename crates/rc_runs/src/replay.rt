@@ -4,7 +4,6 @@ use crate::step::{Step, make};
 use rc_lang::program::Program;
 use rc_lang::request::Request;
 use rc_world::event::Item;
-use rc_world::fault::Fault;
 use rc_world::world::World;
 use rc_world::world::requests::largest;
 use std::alloc::{AllocError, Global};
@@ -19,15 +18,16 @@ pub struct Made {
     pub line: u32,
 }
 
-/// Makes the steps of these items from the start world on, and answers the fault that is met. Those that aren't enabled
-/// are left out, and the item at the place `plain` has its plain form; `made` are the steps that were made.
-pub fn replay(
+/// Makes the steps of these items from the start world on until a fault is met, and answers the world that they lead to.
+/// Those that aren't enabled are left out, and the item at the place `plain` has its plain form; `made` are the steps that
+/// were made.
+pub fn replay<'a>(
     alloc: Global,
-    program: &Program,
+    program: &'a Program,
     items: &[Item],
     plain: Option<usize>,
     made: &mut Vec<Made>,
-) -> Result<Option<Fault>, AllocError> {
+) -> Result<World<'a>, AllocError> {
     let mut world = World::start(alloc, program)?;
     made.clear();
     for (place, item) in items.iter().enumerate() {
@@ -40,10 +40,10 @@ pub fn replay(
         match make(&mut world, &item)? {
             Step::Made => made.push(Made { item, line })?,
             Step::NotEnabled => {}
-            Step::Fault(fault) => return Ok(Some(fault)),
+            Step::Fault(_) => return Ok(world),
         }
     }
-    Ok(world.fault())
+    Ok(world)
 }
 
 /// The number of the line at which the thread of an item stands; 0 where it is the kernel's.

@@ -7,7 +7,7 @@ ghost use Rattle.rc_runs.specs.Harms.{IsHarmIfAny};
 use crate::harm::{Harm, harm_of};
 use crate::numbers::compared_numbers;
 use crate::random::Random;
-use crate::shorten::shorten;
+use crate::shorten::{Goal, shorten};
 use crate::walk::Walker;
 use rc_lang::program::{Program, Thread};
 use rc_world::fault::{Fault, Party};
@@ -82,7 +82,7 @@ fn walk_into(
     if !(of_any || is_of(refused.thread, fault)) {
         return Ok(None);
     }
-    let shorter = shorten(alloc, program, fault, &walker.items)?;
+    let shorter = shorten(alloc, program, Goal::Fault(fault), &walker.items)?;
     harm_of(alloc, program, refused.line, &shorter)
 }
 

@@ -1,21 +1,47 @@
-//! A run into a fault is made shorter.
+//! A run into a fault or into a stuck world is made shorter.
 
 use crate::replay::{Made, replay};
+use crate::stuck::{is_stuck_within, seems_stuck};
 use rc_lang::program::Program;
 use rc_world::event::Item;
 use rc_world::fault::Fault;
+use rc_world::world::World;
 use std::alloc::{AllocError, Global};
 use std::mem::swap;
 
 /// How often each way to shorten a run is tried again at most.
 const MOST_TURNS: u32 = 8;
 
-/// A run into a fault, while it is made shorter.
+/// What a run that is made shorter still comes to.
+#[derive(Clone, Copy)]
+pub enum Goal {
+    /// This fault.
+    Fault(Fault),
+    /// A world that is found to be stuck where so many worlds are reached; of 0, one that seems stuck.
+    Stuck(usize),
+}
+
+impl Goal {
+    /// Whether a run that ends in this world comes to it.
+    fn is_met(self, alloc: Global, world: &World<'_>) -> Result<bool, AllocError> {
+        match self {
+            Goal::Fault(fault) => Ok(world.fault() == Some(fault)),
+            Goal::Stuck(most) => {
+                Ok(
+                    seems_stuck(alloc, world)?
+                        && (most == 0 || is_stuck_within(alloc, world, most)?),
+                )
+            }
+        }
+    }
+}
+
+/// A run, while it is made shorter.
 #[derive(Drop)]
 struct Shortening<'a> {
     alloc: Global,
     program: &'a Program,
-    fault: Fault,
+    goal: Goal,
     // The shortest run so far.
     run: Vec<Made>,
     // The items that are tried, and the run that they make.
@@ -23,11 +49,11 @@ struct Shortening<'a> {
     made: Vec<Made>,
 }
 
-/// Items whose run comes to the same fault, in fewer steps where that was found.
+/// Items whose run comes to the same goal, in fewer steps where that was found.
 pub fn shorten(
     alloc: Global,
     program: &Program,
-    fault: Fault,
+    goal: Goal,
     items: &[Item],
 ) -> Result<Vec<Item>, AllocError> {
     let mut run = Vec::new(alloc);
@@ -35,7 +61,7 @@ pub fn shorten(
     let mut shortening = Shortening {
         alloc,
         program,
-        fault,
+        goal,
         run,
         tried: Vec::new(alloc),
         made: Vec::new(alloc),
@@ -174,10 +200,10 @@ impl<'a> Shortening<'a> {
         Ok(())
     }
 
-    /// Keeps the run of what is tried, if it comes to the fault and isn't longer.
+    /// Keeps the run of what is tried, if it comes to the goal and isn't longer.
     fn keep(&mut self, plain: Option<usize>) -> Result<(), AllocError> {
-        let fault = replay(self.alloc, self.program, &self.tried, plain, &mut self.made)?;
-        if fault == Some(self.fault) && self.made.len() <= self.run.len() {
+        let world = replay(self.alloc, self.program, &self.tried, plain, &mut self.made)?;
+        if self.made.len() <= self.run.len() && self.goal.is_met(self.alloc, &world)? {
             swap(&mut self.run, &mut self.made);
         }
         Ok(())

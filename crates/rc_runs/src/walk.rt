@@ -37,8 +37,10 @@ pub struct Walker<'a> {
     alloc: Global,
     program: &'a Program,
     random: Random,
+    /// Whether a submit of nothing may fail.
+    pub may_fail: bool,
     /// The world in which the walk is.
-    world: World<'a>,
+    pub world: World<'a>,
     turn: Turn,
     /// The items whose steps it made.
     pub items: Vec<Item>,
@@ -61,6 +63,7 @@ impl<'a> Walker<'a> {
             alloc,
             program,
             random,
+            may_fail: true,
             world: World::start(alloc, program)?,
             turn,
             items: Vec::new(alloc),
@@ -122,7 +125,8 @@ impl<'a> Walker<'a> {
             return Ok(None);
         }
         for index in 0..steps {
-            let Some(item) = next_item(&self.world, &mut self.random, &mut self.turn) else {
+            let random = &mut self.random;
+            let Some(item) = next_item(&self.world, random, &mut self.turn, self.may_fail) else {
                 break;
             };
             match make(&mut self.world, &item)? {
@@ -136,14 +140,19 @@ impl<'a> Walker<'a> {
 }
 
 /// The next item of a walk: of the kernel, of the thread that moved last, or of another. None: nothing is enabled.
-fn next_item(world: &World<'_>, random: &mut Random, turn: &mut Turn) -> Option<Item> {
+fn next_item(
+    world: &World<'_>,
+    random: &mut Random,
+    turn: &mut Turn,
+    may_fail: bool,
+) -> Option<Item> {
     if world.pending_len() > 0 && random.is_for_kernel() {
         return completion(world, random);
     }
     match next_line(world, random, turn) {
         Some(line) => Some(Item::Thread {
             thread: turn.thread,
-            take: answer(world, random, line),
+            take: answer(world, random, line, may_fail),
         }),
         None => completion(world, random),
     }
@@ -184,9 +193,12 @@ fn ready_line<'w>(world: &'w World<'_>, thread: u32) -> Option<&'w Line> {
 }
 
 /// What the statement of a thread is answered, where it is a submit that doesn't take all, or an `if any` that says no.
-fn answer(world: &World<'_>, random: &mut Random, line: &Line) -> Option<i32> {
+fn answer(world: &World<'_>, random: &mut Random, line: &Line, may_fail: bool) -> Option<i32> {
+    let queued = world.queued().len();
     match line.stmt {
-        Stmt::Do(Op::Submit(_) | Op::SubmitAndWait(_, _)) => random.take(world.queued().len()),
+        Stmt::Do(Op::Submit(_) | Op::SubmitAndWait(_, _)) if may_fail || queued > 0 => {
+            random.take(queued)
+        }
         Stmt::If(Test::Any) => (random.place(2) == 0).then_some(0),
         _ => None,
     }
