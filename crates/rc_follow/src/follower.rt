@@ -1,6 +1,6 @@
 //! A log, followed line by line.
 
-ghost use Rattle.std.specs.Prelude.{◌≡◌, [], Some, List, IfOk, IfSome, false, replicate, slice_index_or};
+ghost use Rattle.std.specs.Prelude.{◌≡◌, [], Some, List, IfOk, IfSome, false, length, option_map, replicate, slice_get, slice_index_or};
 ghost use Rattle.rc_log.specs.declared.call.Said.{Said as SpecSaid};
 ghost use Rattle.rc_follow.specs.Answers.{Answers, FollowsMore, is_followed};
 ghost use Rattle.rc_follow.specs.Follower as spec;
@@ -19,6 +19,7 @@ use crate::room::Room;
 use crate::search::{search, stay};
 use rc_lang::program::Program;
 use rc_log::call::{Call, Said};
+use rc_world::world::World;
 use std::alloc::{AllocError, Global};
 use std::marker::Model;
 use std::mem::swap;
@@ -153,6 +154,21 @@ impl<'a> Follower<'a> {
             }
             None => 0,
         }
+    }
+
+    /// How many candidate worlds there are.
+    pub fn candidates(&self) -> usize
+        ensures { result ≡ length self.now.ways }
+    {
+        self.worlds.len()
+    }
+
+    /// The candidate world at this place.
+    pub fn candidate(&self, place: usize) -> Option<&World<'a>>
+        ensures { option_map (λ w. w.now) result ≡ option_map (λ w. w.world) (slice_get self.now.ways place) }
+    {
+        let node = self.worlds.get(place)?;
+        Some(node.world())
     }
 
     /// The program.
