@@ -32,7 +32,8 @@ abbrev pub operand_matters : List Bool → ℕ → Operand → Bool
 operand_matters kept i (Variable x) = matters kept i x
 operand_matters kept i (Literal n) = true
 
--- What is compared matters, and that of which something that matters is made. Nothing is stored and nothing filled.
+-- A variable that is compared matters, and so does one from which a variable that matters is computed. Nothing is stored
+-- and nothing filled.
 abbrev pub op_follows : List Bool → ℕ → Op → Bool
 op_follows kept i (Assign x y) = not (matters kept i x) || matters kept i y
 op_follows kept i (Add x y z) = not (matters kept i x) || (operand_matters kept i y && operand_matters kept i z)
@@ -106,7 +107,7 @@ pub record HasSameParts (a b : World) : Type 0 where
 abbrev pub IsSameVariable : List Bool → World → World → ℕ → ℕ → Type 0
 IsSameVariable kept a b i x = matters kept i x ≡ true → variable_in (slice_get a.controls.threads i) x ≡ variable_in (slice_get b.controls.threads i) x
 
--- The thread is at the same place in both, and so are its first 64 variables, of which alone any matters.
+-- The thread is at the same place in both, and its first 64 variables are the same, where they matter. No others matter.
 pub record IsSameThread (kept : List Bool) (a b : World) (i : ℕ) : Type 0 where
   pub place : option_map (λ (t : Standing). t.place) (slice_get a.controls.threads i) ≡ option_map (λ (t : Standing). t.place) (slice_get b.controls.threads i)
   pub variables : (x : ℕ) → x < 64 → IsSameVariable kept a b i x
@@ -117,7 +118,7 @@ pub record IsSameThread (kept : List Bool) (a b : World) (i : ℕ) : Type 0 wher
 abbrev pub HasWorld : List Bool → List World → World → Type 0
 HasWorld kept ws w = (k : ℕ) × (v : World) × (slice_get ws k ≡ Some v) × IsLike kept w v
 
--- Such steps leave the same of all of them as of this one, of each as of each.
+-- What such steps don't change is the same in all of them as in this one, and in any two of them.
 abbrev pub AllLike : World → List World → Type 0
 AllLike w ws = (k : ℕ) (v : World) → slice_get ws k ≡ Some v → still v ≡ still w
 
@@ -134,11 +135,11 @@ pub record IsGrown (old new : List World) : Type 0 where
 abbrev pub is_asked : World → Item → Bool
 is_asked w item = counts w item && is_enabled w item
 
--- The item's step moves nothing, and leads to one of these worlds.
+-- The item's step moves nothing, and leads to one of these worlds, but for variables on which nothing depends.
 abbrev pub Leads : List Bool → World → List World → Item → Type 0
 Leads kept w ws item = (next : World) → GoesBy w item next → (moves w item next ≡ false) × HasWorld kept ws next
 
--- If the thread has a step that counts, it moves nothing, and its statement is no store and no fill.
+-- If the thread has a step that counts, it moves, stores and fills nothing, and depends only on variables that matter.
 abbrev pub Follows : List Bool → World → ℕ → Option ℤ → Type 0
 Follows kept w i take = is_asked w (Thread i take) ≡ true → (line_moves w i (next_line w.program w.controls i) ≡ false) × (line_follows kept i (next_line w.program w.controls i) ≡ true)
 

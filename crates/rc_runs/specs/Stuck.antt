@@ -1,5 +1,4 @@
--- A world in which nothing goes on any more, whatever its threads and the kernel do. In the words of io_uring(7): a program
--- that hangs.
+-- A world in which nothing goes on any more, whatever its threads and the kernel do: the program hangs.
 use Rattle.std.specs.Prelude.{ℕ, ◌≡◌, Bool, true, false, ◌||◌, List, [], ◌∷◌, length, nat_lt, Option, Some, None}
 use Rattle.rc_lang.specs.declared.lines.Line.{Line}
 use Rattle.rc_lang.specs.declared.lines.Op.{Op}
@@ -64,7 +63,7 @@ pub record GoesBy (w : World) (item : Item) (next : World) : Type 0 where
   pub enabled : is_enabled w item ≡ true
   pub step : (e : Event) × (item_step w item ≡ Some (e, next))
 
--- the worlds that are reached from a world on
+-- After these items' steps the run is in the second world.
 abbrev pub IsOnward : World → List Item → World → Type 0
 IsOnward w [] after = w ≡ after
 IsOnward w (item ∷ items) after = (next : World) × GoesBy w item next × IsOnward next items after
@@ -74,7 +73,7 @@ pub record IsStill (w : World) : Type 0 where
   pub no_fault : fault_of w ≡ None
   pub moves_nothing : (item : Item) (next : World) → GoesBy w item next → moves w item next ≡ false
 
--- A thread hasn't ended, and every world that is reached from here on is still. So no thread ends any more, nothing is
+-- A thread hasn't ended, and every world that is reached from here is still. So no thread ends any more, nothing is
 -- queued, submitted, completed, reaped, put or taken, and no request is pending.
 pub record IsStuck (w : World) : Type 0 where
   pub left : all_ended w ≡ false

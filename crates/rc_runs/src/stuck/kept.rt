@@ -5,7 +5,7 @@ use rc_lang::lines::{Line, Op, Operand, Stmt, Test};
 use rc_lang::program::Program;
 use std::alloc::{AllocError, Global};
 
-/// For each variable of each thread, 64 places a thread, whether an `if` compares it, or something that is made of it.
+/// For each variable of each thread, 64 places a thread, whether an `if` compares it, or a variable computed from it.
 pub fn kept_variables(alloc: Global, program: &Program) -> Result<Vec<bool>, AllocError> {
     let mut kept = Vec::new(alloc);
     for thread in program.threads() {
@@ -23,7 +23,7 @@ fn push_of_thread(alloc: Global, kept: &mut Vec<bool>, lines: &[Line]) -> Result
     kept.extend_from_slice(&own)
 }
 
-/// Keeps what these lines compare, and that of which they make what is kept.
+/// Keeps the variables that these lines compare, and those from which they compute a variable that is kept.
 fn keep_of_lines(own: &mut [bool], lines: &[Line]) {
     for line in lines {
         match line.stmt {
@@ -38,7 +38,7 @@ fn keep_of_lines(own: &mut [bool], lines: &[Line]) {
     }
 }
 
-/// Keeps an operand, where the variable that is made of it is kept.
+/// Keeps an operand, where the variable that is computed from it is kept.
 fn keep_of(own: &mut [bool], x: usize, operand: Operand) {
     let is_kept = matches!(own.get(x), Some(true));
     if let Operand::Variable(y) = operand

@@ -57,8 +57,8 @@ fn may_take(world: &World<'_>, thread: u32, pool: Option<usize>, k: usize) -> bo
     }
 }
 
-/// Whether the statement that a thread has next stores and fills nothing, and what it compares matters, and that of which
-/// it makes something that matters.
+/// Whether the statement that a thread has next stores and fills nothing, compares only variables that matter, and computes
+/// those that matter only from such.
 pub fn follows(kept: &[bool], world: &World<'_>, thread: u32) -> bool
     ensures { result ≡ closing.line_follows kept.now thread (next_line world.now.program world.now.controls thread) }
 {

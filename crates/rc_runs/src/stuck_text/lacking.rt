@@ -10,7 +10,7 @@ use rc_text::text::{put_counted, put_piece, put_pieces};
 use rc_world::world::World;
 use std::alloc::AllocError;
 
-/// An item of which a pool hasn't enough.
+/// An item that a pool lacks.
 #[derive(Clone, Copy)]
 enum Lack {
     /// Shares of the buffer with this number.
@@ -36,7 +36,7 @@ enum Holder {
     Nobody,
 }
 
-/// Adds where the first of these items is of which a pool hasn't enough.
+/// Adds where the first of these items is that a pool lacks.
 pub fn put_lacking(
     text: &mut Vec<u8>,
     world: &World<'_>,
@@ -111,7 +111,7 @@ fn last_of(program: &Program, had: &Had, lack: Lack) -> Option<Got> {
     }
 }
 
-/// The first of these items of which a pool hasn't enough.
+/// The first of these items that a pool lacks.
 fn lack_of(world: &World<'_>, pool: Option<usize>, items: &Items) -> Option<Lack> {
     let pool = pool_of(world, pool)?;
     for share in &items.shares {
@@ -135,7 +135,7 @@ fn pool_of<'w>(world: &'w World<'_>, pool: Option<usize>) -> Option<&'w Pool> {
     }
 }
 
-/// Where an item is of which this pool hasn't enough.
+/// Where an item is that this pool lacks.
 fn holder_of(world: &World<'_>, all: &[Standing], asked: Option<usize>, lack: Lack) -> Holder {
     if let Some(other) = pool_with(world, asked, lack) {
         return other;
