@@ -292,8 +292,10 @@ RINGCHECK_INSIDE const char *ringcheck_name(const char *name)
 
 RINGCHECK_INSIDE void ringcheck_settle(const char *file, int line);
 
-/* The last line of a log that got full. It has no line feed, so who doesn't know it leaves it out. */
+/* The last line of a log that got full, and of one whose program ended by itself. They have no line feed, so who doesn't
+   know them leaves them out, and are as long as each other. */
 #define RINGCHECK_FULL "full"
+#define RINGCHECK_DONE "done"
 
 /* Gives the log's file this many bytes in all. They are there from now on, so a full disk is seen here. */
 RINGCHECK_INSIDE int ringcheck_allocates(size_t bytes)
@@ -379,16 +381,19 @@ __attribute__((unused, format(printf, 3, 4))) static inline void ringcheck_line(
     errno = saved;
 }
 
-/* Cuts the log to its length. Lines that come later find no room. */
+/* Adds that the program ended, and cuts the log to its length. Lines that come later find no room. */
 RINGCHECK_INSIDE void ringcheck_end(void)
 {
     const size_t at = __atomic_fetch_add(&ringcheck_state.at, ringcheck_state.size, __ATOMIC_RELAXED);
     const size_t full = __atomic_load_n(&ringcheck_state.end, __ATOMIC_RELAXED);
-    const size_t end = full != 0 ? full : at;
+    const size_t end = full != 0 ? full : at + sizeof RINGCHECK_DONE - 1;
 
     __atomic_store_n(&ringcheck_state.is_full, 1, __ATOMIC_RELAXED);
-    if (ringcheck_state.map != NULL && end <= ringcheck_state.grown &&
-        ftruncate(ringcheck_state.descriptor, (off_t)end) != 0)
+    if (ringcheck_state.map == NULL || end > ringcheck_state.grown)
+        return;
+    if (full == 0)
+        memcpy(ringcheck_state.map + at, RINGCHECK_DONE, sizeof RINGCHECK_DONE - 1);
+    if (ftruncate(ringcheck_state.descriptor, (off_t)end) != 0)
         perror("ringcheck.h: the log can't be cut to its length");
 }
 

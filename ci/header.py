@@ -142,10 +142,12 @@ def logs_as_said(folder, words, flags, header=HEADER):
     ran = called([binary], timeout=60, env=dict(os.environ, RINGCHECK_LOG_FILE=str(log), RINGCHECK_FAULTS=""))
     if ran.returncode:
         raise Wrong(f"follow-calls by {words[0]} {flags}: {ran.stderr}")
-    if LOG[0] in flags and [line.split(" ", 2)[2] for line in log.read_text().splitlines()[2:]] != wanted:
-        raise Wrong(f"{words[0]} {flags}: the log isn't that of the comments")
-    if LOG[0] in flags and ran.stderr.count("not logged: a second ring") != 1:
-        raise Wrong(f"{words[0]} {flags}: that a second ring isn't logged is to be printed once:\n{ran.stderr}")
+    if LOG[0] in flags:
+        *lines, end = log.read_text().split("\n")
+        if [line.split(" ", 2)[2] for line in lines[2:]] != wanted or end != "done":
+            raise Wrong(f"{words[0]} {flags}: the log isn't that of the comments")
+        if ran.stderr.count("not logged: a second ring") != 1:
+            raise Wrong(f"{words[0]} {flags}: that a second ring isn't logged is to be printed once:\n{ran.stderr}")
     return len(wanted)
 
 

@@ -72,9 +72,10 @@ fn make_room(alloc: Global) -> Result<Vec<u8>, AllocError>
 }
 
 impl<R: Read> LogReader<R> {
-    ghost use Rattle.std.specs.Prelude.{◌≡◌, IfOk};
+    ghost use Rattle.std.specs.Prelude.{◌≡◌, IfOk, codes};
+    ghost use Rattle.std.specs.Str.{bytes_eq};
     ghost use Rattle.rc_log.specs.Lines.{Gives};
-    ghost use Rattle.rc_log.specs.Waiting.{ReadsMore, given, left};
+    ghost use Rattle.rc_log.specs.Waiting.{ReadsMore, given, left, waiting};
 
     /// A reader of the log that this reader gives.
     pub fn new(alloc: Global, reader: R) -> Result<LogReader<R>, AllocError>
@@ -119,6 +120,13 @@ impl<R: Read> LogReader<R> {
                 return Ok(end_of(self.pending.waiting()));
             }
         }
+    }
+
+    /// Whether the program says at the log's end that it has ended by itself. Asked once there is no line more.
+    pub fn is_done(&self) -> bool
+        ensures { result ≡ bytes_eq (waiting self.now.pending) (codes "done") }
+    {
+        is(self.pending.waiting(), b"done")
     }
 
     /// The line that was found last, without its line feed.
