@@ -1,5 +1,6 @@
 //! `draft`: models from logs of C programs.
 
+pub mod again;
 pub mod answers;
 pub mod making;
 pub mod object;

@@ -2,7 +2,11 @@
 
 use crate::head::{put_declared, put_head, put_thread};
 use crate::limits::{note_limits, note_text};
-use crate::threads::{Drawn, Given, drawn_threads, note_loops, own_names};
+use crate::threads::{Drawn, Given, bodies_of, drawn_threads, note_loops, own_names, walks_of};
+use crate::walks::Walks;
+use crate::work::Body;
+use rc_replay::again::{Logs, ReplayFault};
+use rc_replay::replay::Again;
 use rc_replay::replayed::Replayed;
 use std::alloc::{AllocError, Global};
 
@@ -15,13 +19,36 @@ pub struct Drafted {
     pub notes: Vec<Vec<u8>>,
 }
 
-/// Drafts a model. Each thread gets the loop form where that is wanted, or where its orders are too many.
-pub fn draft(alloc: Global, replayed: &Replayed, is_looped: bool) -> Result<Drafted, AllocError> {
-    let drawn = drawn_threads(Given {
+/// Drafts a model. Each thread gets the loop form where that is wanted, or where its orders are too many. For such
+/// threads the logs are replayed once more.
+pub fn draft<L: Logs>(
+    alloc: Global,
+    replayed: &Replayed,
+    again: &mut Again,
+    logs: &L,
+    is_looped: bool,
+) -> Result<Drafted, ReplayFault> {
+    let given = Given {
         alloc,
         replayed,
         is_looped,
-    })?;
+    };
+    let bodies = bodies_of(given)?;
+    let mut walks = walks_of(given, &bodies)?;
+    if walks.is_any {
+        again.visit(alloc, logs, &mut walks)?;
+    }
+    Ok(of_bodies(given, bodies, walks)?)
+}
+
+// The draft, from the code of the threads that isn't one loop, and what is read of the others.
+fn of_bodies(
+    given: Given<'_>,
+    bodies: Vec<Option<Body>>,
+    walks: Walks<'_>,
+) -> Result<Drafted, AllocError> {
+    let (alloc, replayed) = (given.alloc, given.replayed);
+    let drawn = drawn_threads(given, bodies, walks)?;
     let text = text_of(alloc, replayed, &drawn)?;
     let notes = notes_of(alloc, replayed, &drawn, &text)?;
     Ok(Drafted { text, notes })

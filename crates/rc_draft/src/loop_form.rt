@@ -6,7 +6,7 @@ use crate::loop_peek::put_peek;
 use crate::piece::{Comment, Head, Line, Piece, Pool, Test};
 use crate::source::Source;
 use crate::steps::{Doing, Step, Steps};
-use crate::stretches::{Stretches, stretches_of};
+use crate::stretches::Stretches;
 use crate::work::Body;
 use std::alloc::AllocError;
 
@@ -25,8 +25,8 @@ pub enum Task {
 }
 
 /// The code of such a thread, which begins with a holding.
-pub fn looped(source: Source<'_>, thread: u32, start: u32) -> Result<Body, AllocError> {
-    let Stretches { steps, lists, .. } = stretches_of(source, thread)?;
+pub fn looped(source: Source<'_>, stretches: Stretches, start: u32) -> Result<Body, AllocError> {
+    let Stretches { steps, lists, .. } = stretches;
     let mut body = Body::new(source.alloc);
     body.lists = lists;
     if steps.next(0).is_empty() {

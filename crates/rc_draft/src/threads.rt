@@ -6,10 +6,11 @@ use crate::marks::number_of;
 use crate::names::own_name;
 use crate::source::Source;
 use crate::structure::structured;
+use crate::walks::{Walk, Walks};
 use crate::work::Body;
 use rc_machine::groups::machines;
 use rc_machine::machine::Machines;
-use rc_replay::replayed::{Act, Holding, Replayed, Thread};
+use rc_replay::replayed::{Holding, Replayed, Thread};
 use rc_text::text::put_pieces;
 use std::alloc::{AllocError, Global};
 
@@ -36,17 +37,38 @@ pub struct Given<'a> {
     pub is_looped: bool,
 }
 
-/// The code of all threads: written from machines that tell apart which requests are out, from machines that don't
-/// where that is too long, and else one loop.
-pub fn drawn_threads(given: Given<'_>) -> Result<Vec<Drawn>, AllocError> {
+/// The code of the threads whose code isn't one loop: written from machines that tell apart which requests are out, and
+/// where that is too long from machines that don't.
+pub fn bodies_of(given: Given<'_>) -> Result<Vec<Option<Body>>, AllocError> {
     let mut bodies = no_bodies(given)?;
     if !given.is_looped {
         write_bodies(given, &mut bodies, true)?;
         write_bodies(given, &mut bodies, false)?;
     }
+    Ok(bodies)
+}
+
+/// The threads that have no code yet: theirs is one loop.
+pub fn walks_of<'a>(given: Given<'a>, bodies: &[Option<Body>]) -> Result<Walks<'a>, AllocError> {
+    let mut walks = Walks::new(given.alloc);
+    for (number, thread) in given.replayed.threads.iter().enumerate() {
+        match bodies.get(number) {
+            Some(None) => walks.add(loop_source(given, thread))?,
+            _ => walks.pass()?,
+        }
+    }
+    Ok(walks)
+}
+
+/// The code of all threads.
+pub fn drawn_threads(
+    given: Given<'_>,
+    bodies: Vec<Option<Body>>,
+    mut walks: Walks<'_>,
+) -> Result<Vec<Drawn>, AllocError> {
     let mut drawn = Vec::new(given.alloc);
     for (number, body) in bodies.into_iter().enumerate() {
-        let one = drawn_thread(given, number_of(number), body)?;
+        let one = drawn_thread(given, number_of(number), body, walks.take(number))?;
         drawn.push(one).map_err(AllocError::from)?;
     }
     Ok(drawn)
@@ -102,14 +124,19 @@ fn written(
     let Some(machine) = machines.machines.get(entry.machine as usize) else {
         return Ok(None);
     };
-    let source = source_of(given, &machines.holdings, number_of(number), thread);
+    let source = source_of(given, &machines.holdings, thread);
     Ok(match structured(source, &machine.nodes, entry.start)? {
         Some(body) if body.code.pieces.len() <= MOST_PIECES => Some(body),
         _ => None,
     })
 }
 
-fn drawn_thread(given: Given<'_>, number: u32, body: Option<Body>) -> Result<Drawn, AllocError> {
+fn drawn_thread(
+    given: Given<'_>,
+    number: u32,
+    body: Option<Body>,
+    walk: Option<Walk<'_>>,
+) -> Result<Drawn, AllocError> {
     match body {
         Some(body) => Ok(Drawn {
             body,
@@ -117,20 +144,22 @@ fn drawn_thread(given: Given<'_>, number: u32, body: Option<Body>) -> Result<Dra
             has_left: given.replayed.left > 0,
             is_looped: false,
         }),
-        None => drawn_loop(given, number),
+        None => drawn_loop(given, number, walk),
     }
 }
 
-// A thread whose code is one loop. Where it never releases the lock, entries may stay queued.
-fn drawn_loop(given: Given<'_>, number: u32) -> Result<Drawn, AllocError> {
+// A thread whose code is one loop.
+fn drawn_loop(given: Given<'_>, number: u32, walk: Option<Walk<'_>>) -> Result<Drawn, AllocError> {
     let mut has_left = given.replayed.left > 0;
     let mut body = Body::new(given.alloc);
-    if let Some(thread) = given.replayed.threads.get(number as usize) {
-        let mut source = source_of(given, &given.replayed.holdings, number, thread);
-        has_left = has_left || source.guards.kept.sq;
-        source.has_left = has_left;
-        source.is_tight = has_left && is_tight(given.replayed);
-        body = looped(source, number, thread.start)?;
+    if let Some(walk) = walk {
+        let Walk {
+            source,
+            stretches,
+            ..
+        } = walk;
+        has_left = source.has_left;
+        body = looped(source, stretches, start_of(given.replayed, number))?;
     }
     Ok(Drawn {
         body,
@@ -140,19 +169,29 @@ fn drawn_loop(given: Given<'_>, number: u32) -> Result<Drawn, AllocError> {
     })
 }
 
-fn source_of<'a>(
-    given: Given<'a>,
-    holdings: &'a [Holding],
-    number: u32,
-    thread: &Thread,
-) -> Source<'a> {
-    let is_reaper = has_reaps(given.replayed, number);
+// The holding with which a thread begins.
+fn start_of(replayed: &Replayed, thread: u32) -> u32 {
+    match replayed.threads.get(thread as usize) {
+        Some(thread) => thread.start,
+        None => 0,
+    }
+}
+
+// What the loop of a thread is drafted from. Where it never releases the lock, entries may stay queued.
+fn loop_source<'a>(given: Given<'a>, thread: &Thread) -> Source<'a> {
+    let mut source = source_of(given, &given.replayed.holdings, thread);
+    source.has_left = source.has_left || source.guards.kept.sq;
+    source.is_tight = source.has_left && is_tight(given.replayed);
+    source
+}
+
+fn source_of<'a>(given: Given<'a>, holdings: &'a [Holding], thread: &Thread) -> Source<'a> {
     let has_left = given.replayed.left > 0;
     Source {
         alloc: given.alloc,
         replayed: given.replayed,
         holdings,
-        guards: Guards::of(thread.keeps, given.replayed.has_sides, is_reaper),
+        guards: Guards::of(thread.keeps, given.replayed.has_sides, thread.has_reaps),
         has_left,
         is_tight: has_left && is_tight(given.replayed),
     }
@@ -166,35 +205,10 @@ fn is_tight(replayed: &Replayed) -> bool {
 // How many credits a thread has besides those of its tokens: one, if it uses what a completion brings before it has
 // seen it, as its credit comes only then.
 fn spare(replayed: &Replayed, thread: u32) -> u32 {
-    for run in &replayed.runs {
-        if run.thread == thread && has_reap(replayed, &run.events, true) {
-            return 1;
-        }
+    match replayed.threads.get(thread as usize) {
+        Some(thread) if thread.has_early => 1,
+        _ => 0,
     }
-    0
-}
-
-// Whether a thread reaps.
-fn has_reaps(replayed: &Replayed, thread: u32) -> bool {
-    for run in &replayed.runs {
-        if run.thread == thread && has_reap(replayed, &run.events, false) {
-            return true;
-        }
-    }
-    false
-}
-
-// Whether some of the events reap, or reap early.
-fn has_reap(replayed: &Replayed, events: &[u32], is_early_only: bool) -> bool {
-    for event in events {
-        if let Some(event) = replayed.events.get(*event as usize) {
-            match event.act {
-                Act::Reap { is_early, .. } if is_early || !is_early_only => return true,
-                _ => {}
-            }
-        }
-    }
-    false
 }
 
 /// The names of the pools of threads, in the order of the threads.

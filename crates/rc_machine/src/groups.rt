@@ -12,7 +12,6 @@ use crate::merge::merge;
 use crate::swaps::swap;
 use crate::touched::touched_of;
 use crate::trace::add_windows;
-use crate::windows::{Windows, windows};
 use indexmap::IndexSet;
 use rc_replay::replayed::Replayed;
 use std::alloc::{AllocError, Global};
@@ -27,7 +26,6 @@ struct Group {
 #[derive(Clone, Copy)]
 struct Ground<'a> {
     replayed: &'a Replayed,
-    windows: &'a [Windows],
     like: &'a [Vec<u32>],
 }
 
@@ -37,12 +35,10 @@ pub fn machines(
     replayed: &Replayed,
     has_outs: bool,
 ) -> Result<Machines, AllocError> {
-    let windows = windows(alloc, replayed)?;
     let like = like_things(alloc, replayed)?;
-    let groups = groups_of(alloc, replayed, &windows)?;
+    let groups = groups_of(alloc, replayed)?;
     let ground = Ground {
         replayed,
-        windows: &windows,
         like: &like,
     };
     machines_of(alloc, ground, &groups, has_outs)
@@ -139,7 +135,7 @@ fn add_thread(
     };
     let start = graph.node(key_of_start(tables, held))?;
     starts.push(start)?;
-    match ground.windows.get(thread as usize) {
+    match ground.replayed.windows.get(thread as usize) {
         Some(windows) => add_windows(tables, graph, ground.replayed, start, windows),
         None => Ok(()),
     }
@@ -153,12 +149,8 @@ fn enter(threads: &mut [Entry], thread: u32, machine: u32, start: u32) {
 }
 
 /// Which threads share a machine.
-fn groups_of(
-    alloc: Global,
-    replayed: &Replayed,
-    windows: &[Windows],
-) -> Result<Vec<Group>, AllocError> {
-    let touched = touched_of(alloc, replayed, windows)?;
+fn groups_of(alloc: Global, replayed: &Replayed) -> Result<Vec<Group>, AllocError> {
+    let touched = touched_of(alloc, replayed)?;
     let mut groups = Vec::new(alloc);
     for thread in 0..number(replayed.threads.len()) {
         add_to_group(alloc, replayed, &touched, &mut groups, thread)?;

@@ -1,18 +1,14 @@
 //! Which things each thread touches.
 
-use crate::windows::Windows;
 use indexmap::IndexSet;
 use rc_replay::replayed::{Act, Event, Replayed};
+use rc_replay::windows::Windows;
 use std::alloc::{AllocError, Global};
 
 /// The things that each thread sends, fills, loads, puts or takes.
-pub fn touched_of(
-    alloc: Global,
-    replayed: &Replayed,
-    windows: &[Windows],
-) -> Result<Vec<IndexSet<u32>>, AllocError> {
+pub fn touched_of(alloc: Global, replayed: &Replayed) -> Result<Vec<IndexSet<u32>>, AllocError> {
     let mut touched = Vec::new(alloc);
-    for windows in windows {
+    for windows in &replayed.windows {
         touched.push(touched_in(alloc, replayed, windows)?)?;
     }
     Ok(touched)

@@ -3,8 +3,8 @@
 use crate::graph::{Graph, Led, Passed, seen_with};
 use crate::holdings::Tables;
 use crate::key::{class_of, key_after, key_before, label_of};
-use crate::windows::{Stage, Window, Windows};
 use rc_replay::replayed::{Act, Event, Replayed};
+use rc_replay::windows::{Stage, Window, Windows};
 use std::alloc::AllocError;
 
 /// Adds the windows of a thread, which begins at this node.

@@ -1,6 +1,6 @@
 //! What comes later in a log: the next takes and puts of a thread, and the next touch of a thing.
 
-use crate::making::Larger;
+use crate::course::Larger;
 use crate::names::{at, set, short};
 use crate::parts::Parts;
 use crate::shapes::{Deed, Shapes, requests_of};
@@ -10,13 +10,11 @@ use std::alloc::{AllocError, Global};
 /// Past all events.
 pub const NEVER: u32 = u32::MAX;
 
-/// What comes after an event, by the places of events.
+/// What comes after an event, by the numbers of events. What comes later than those that are looked at is never.
 #[derive(Clone, Copy)]
 pub struct Ahead {
     /// The thread's next event.
     pub next: u32,
-    /// The thread's event before.
-    pub previous: u32,
     /// The thread's next take.
     pub take: u32,
     /// The thread's next put.
@@ -27,10 +25,9 @@ pub struct Ahead {
     pub pool_take: u32,
 }
 
-/// Nothing comes after, or before.
+/// Nothing comes after.
 pub const NOTHING: Ahead = Ahead {
     next: NEVER,
-    previous: NEVER,
     take: NEVER,
     put: NEVER,
     same_put: NEVER,
@@ -66,11 +63,12 @@ fn mark_of(deed: &Deed) -> Option<(u32, bool)> {
     }
 }
 
-/// What comes after each event of a log.
+/// What comes after each of these events of a log. The first of them has this number.
 pub fn look_ahead(
     alloc: Global,
     shapes: &Shapes,
     events: &[Larger],
+    first: u32,
     threads: usize,
     pools: usize,
 ) -> Result<Vec<Ahead>, AllocError> {
@@ -83,49 +81,40 @@ pub fn look_ahead(
     };
     let mut ahead = vec![in alloc; NOTHING; events.len()]?;
     for back in 1..=events.len() {
-        let place = events.len() - back;
-        if let Some(event) = events.get(place) {
-            let seen = behind.before(shapes, *event, short(place))?;
-            set_ahead(&mut ahead, short(place), seen);
+        let place = short(events.len() - back);
+        if let Some(event) = events.get(place as usize) {
+            let seen = behind.before(shapes, *event, first.saturating_add(place))?;
+            set(&mut ahead, place, seen);
         }
     }
     Ok(ahead)
 }
 
-/// Sets what comes after an event, and that this comes before its next.
-fn set_ahead(ahead: &mut [Ahead], place: u32, seen: Ahead) {
-    if let Some(next) = ahead.get_mut(seen.next as usize) {
-        next.previous = place;
-    }
-    set(ahead, place, seen);
-}
-
 impl Behind {
-    /// What comes after an event, which is then before the others.
-    fn before(&mut self, shapes: &Shapes, event: Larger, place: u32) -> Result<Ahead, AllocError> {
+    /// What comes after the event of this number, which is then before the others.
+    fn before(&mut self, shapes: &Shapes, event: Larger, number: u32) -> Result<Ahead, AllocError> {
         let thread = event.thread;
         let mut ahead = Ahead {
             next: at(&self.nexts, thread, NEVER),
-            previous: NEVER,
             take: at(&self.takes, thread, NEVER),
             put: at(&self.puts, thread, NEVER),
             same_put: NEVER,
             pool_take: NEVER,
         };
-        set(&mut self.nexts, thread, place);
+        set(&mut self.nexts, thread, number);
         let Some(shape) = shapes.at(event.shape) else {
             return Ok(ahead);
         };
         if let Some((pool, is_take)) = mark_of(&shape.deed) {
             ahead.pool_take = at(&self.pool_takes, pool, NEVER);
             if is_take {
-                set(&mut self.pool_takes, pool, place);
-                set(&mut self.takes, thread, place);
+                set(&mut self.pool_takes, pool, number);
+                set(&mut self.takes, thread, number);
             } else {
-                set(&mut self.puts, thread, place);
+                set(&mut self.puts, thread, number);
                 ahead.same_put = self
                     .same_puts
-                    .insert((thread, pool), place)?
+                    .insert((thread, pool), number)?
                     .unwrap_or(NEVER);
             }
         }
@@ -133,12 +122,13 @@ impl Behind {
     }
 }
 
-/// The touches of each thing in a log, in order.
+/// The touches of each thing in these events of a log, in order.
 pub fn touches_of(
     alloc: Global,
     shapes: &Shapes,
     parts: &Parts,
     events: &[Larger],
+    first: u32,
 ) -> Result<Vec<Vec<Touch>>, AllocError> {
     let mut touches = Vec::new(alloc);
     for _ in 0..parts.things.len() {
@@ -146,7 +136,7 @@ pub fn touches_of(
     }
     for (place, event) in events.iter().enumerate() {
         let touch = Touch {
-            event: short(place),
+            event: first.saturating_add(short(place)),
             thread: event.thread,
         };
         if let Some(shape) = shapes.at(event.shape) {

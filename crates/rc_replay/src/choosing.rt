@@ -54,7 +54,7 @@ fn event_of(touch: Option<Touch>) -> u32 {
 
 /// The pool of an event that is a put.
 pub fn put_pool(scene: Scene<'_>, event: u32) -> Option<u32> {
-    let larger = scene.events.get(event as usize)?;
+    let larger = scene.event(event)?;
     match scene.stage.shapes.at(larger.shape)?.deed {
         Deed::Put { pool, buffer: _ } => Some(pool),
         _ => None,
@@ -62,15 +62,12 @@ pub fn put_pool(scene: Scene<'_>, event: u32) -> Option<u32> {
 }
 
 /// What is the same for all things that a put may move.
-fn row_of(scene: Scene<'_>, moment: Moment, pool: u32) -> Row {
+fn row_of(scene: Scene<'_>, play: &Play, moment: Moment, pool: u32) -> Row {
     let ahead = scene.ahead(moment.event);
     let is_next = put_pool(scene, ahead.next) == Some(pool) && ahead.pool_take >= ahead.next;
-    let before = scene.ahead(ahead.previous);
-    let is_previous = put_pool(scene, ahead.previous) == Some(pool)
-        && before.pool_take >= moment.event;
     Row {
         ahead,
-        is_row: is_next || is_previous,
+        is_row: is_next || play.marks.is_row(moment.thread, pool),
         pool,
     }
 }
@@ -83,7 +80,7 @@ pub fn choose_put(
     moment: Moment,
     pool: u32,
 ) -> Option<Choice> {
-    let row = row_of(scene, moment, pool);
+    let row = row_of(scene, play, moment, pool);
     let mut best = None;
     for share in play.ledger.held(moment.thread).iter().take(MOST_THINGS) {
         if let Some(thing) = scene.stage.thing_of(share.part) {

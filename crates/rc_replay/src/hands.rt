@@ -47,6 +47,10 @@ pub struct Hand {
     pub has_marked: bool,
     /// Its last event.
     pub last: Option<u32>,
+    /// The shape of that.
+    pub shape: u32,
+    /// How many entries that leaves queued.
+    pub stays: u32,
 }
 
 /// So many threads before their first lines.
@@ -60,6 +64,8 @@ pub fn hands_of(alloc: Global, count: usize) -> Result<Vec<Hand>, AllocError> {
             is_unlocked: false,
             has_marked: false,
             last: None,
+            shape: 0,
+            stays: 0,
         })?;
     }
     Ok(hands)
@@ -74,11 +80,20 @@ impl Hand {
         }
     }
 
+    /// Whether its requests are an event before this one.
+    pub fn is_before(&self, event: u32) -> bool {
+        match &self.sending {
+            Some(sending) => sending.event < event,
+            None => false,
+        }
+    }
+
     /// The next event is this one. Whether a mutex was unlocked since the last.
     pub fn next(&mut self, event: u32) -> bool {
         let is_unlocked = self.is_unlocked;
         self.is_unlocked = false;
         self.last = Some(event);
+        self.stays = 0;
         is_unlocked
     }
 

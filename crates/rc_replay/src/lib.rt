@@ -1,26 +1,42 @@
 //! Logs of what programs called on their rings, replayed: larger events, and who held what before and after each.
 #![tactic(auto)]
 
+pub mod again;
 mod ahead;
 mod choosing;
+mod course;
+mod deeds;
+mod filling;
+mod glance;
 mod hands;
 mod ledger;
 mod lines;
 mod locking;
 mod making;
+mod marks;
 mod mutexes;
 mod names;
+mod needing;
 mod notes;
 mod outcome;
 mod parts;
+mod passes;
 mod playing;
+mod reading;
 pub mod recording;
+mod reel;
 pub mod replay;
 pub mod replayed;
 mod replaying;
+mod requests;
 mod shapes;
 mod shares;
 mod stage;
 mod steps;
+mod sums;
 mod survey;
 mod tables;
+mod told;
+mod users;
+pub mod visitor;
+pub mod windows;

@@ -1,25 +1,20 @@
 //! Larger events of a log: requests that are made and submitted under one hold of the mutex, completions, marks.
 
-use crate::hands::{Hand, Opened, Peeked, Sending, hands_of};
+use crate::course::Course;
+use crate::deeds::{class_of, cut_shape, deed_of, is_same_touch, places_of, seen_deed, why_not};
+use crate::glance::uses;
+use crate::hands::{Hand, Opened, Peeked};
 use crate::locking::Locking;
-use crate::names::{at, set, short};
+use crate::names::{at, set};
 use crate::notes::Notes;
 use crate::parts::Parts;
-use crate::replayed::{Class, Kind, Sent, Submit};
+use crate::replayed::Submit;
 use crate::shapes::{Deed, Shape, Shapes};
-use crate::steps::{Log, Says, Step};
-use crate::survey::{Survey, buffer_of, uses};
+use crate::steps::{Says, Step};
+use crate::survey::{Survey, buffer_of};
 use crate::tables::Tables;
+use indexmap::IndexMap;
 use std::alloc::{AllocError, Global};
-
-/// A larger event of a thread.
-#[derive(Clone, Copy)]
-pub struct Larger {
-    pub thread: u32,
-    pub shape: u32,
-    /// How many entries it leaves queued.
-    pub stays: u32,
-}
 
 /// What the logs are read with.
 #[derive(Clone, Copy)]
@@ -30,7 +25,7 @@ pub struct Ground<'a> {
     pub parts: &'a Parts,
 }
 
-/// What is made of all logs.
+/// What is made of all logs. Making it once more changes nothing.
 #[derive(Drop)]
 pub struct Made {
     pub shapes: Shapes,
@@ -38,75 +33,10 @@ pub struct Made {
     pub locking: Locking,
     /// Of each token: whether a completion of it was found twice before it was seen.
     pub is_twice: Vec<bool>,
-    /// The events of each log.
-    pub logs: Vec<Vec<Larger>>,
-}
-
-/// A log under way.
-#[derive(Drop)]
-struct Course {
-    events: Vec<Larger>,
-    /// How many entries are queued.
-    queued: u32,
-    /// Of each token what was asked for with it last.
-    latest: Vec<Option<u32>>,
-}
-
-/// How a completion's request ended.
-fn class_of(ground: Ground<'_>, asked: Option<u32>, res: i32) -> Class {
-    if res < 0 {
-        return Class::Negative;
-    }
-    let Some(asked) = ground.tables.asked_at(asked) else {
-        return Class::Full;
-    };
-    match asked.kind {
-        Kind::Other => Class::Full,
-        Kind::Fsync { is_datasync: _ } | Kind::Nop if res == 0 => Class::Full,
-        Kind::Fsync { is_datasync: _ } | Kind::Nop => Class::Short,
-        _ if res == 0 => Class::Zero,
-        _ if i64::from(res) == i64::from(asked.len) => Class::Full,
-        _ => Class::Short,
-    }
-}
-
-/// What a thread does by a mark.
-fn deed_of(says: Says) -> Option<Deed> {
-    match says {
-        Says::Reads(buffer) => Some(Deed::Load(buffer)),
-        Says::Writes(buffer) => Some(Deed::Fill(buffer)),
-        Says::Put(pool) => Some(Deed::Put { pool, buffer: None }),
-        Says::PutOf { pool, buffer } => Some(Deed::Put {
-            pool,
-            buffer: Some(buffer),
-        }),
-        Says::Take(pool) => Some(Deed::Take { pool, buffer: None }),
-        Says::TakeOf { pool, buffer } => Some(Deed::Take {
-            pool,
-            buffer: Some(buffer),
-        }),
-        Says::Ends => Some(Deed::End),
-        _ => None,
-    }
-}
-
-/// Why no model has what a line says; empty where it may.
-fn why_not(says: Says) -> &'static [u8] {
-    match says {
-        Says::NoEntry => b"get_sqe found no entry: the ring was full",
-        Says::Flags => b"an entry has flags, which no model has",
-        Says::Unnamed => b"nobody said which buffer this is (RINGCHECK_BUFFER)",
-        _ => b"",
-    }
-}
-
-/// Whether both touch the same buffer in the same way.
-fn is_same_touch(one: &Deed, other: &Deed) -> bool {
-    match (one, other) {
-        (Deed::Fill(one), Deed::Fill(other)) => *one == *other,
-        (Deed::Load(one), Deed::Load(other)) => *one == *other,
-        _ => false,
-    }
+    /// The most entries that an event leaves queued, but for a last one.
+    pub left: u32,
+    /// Of each log and thread the last event, where it leaves entries queued: the log's end cuts it off.
+    cuts: IndexMap<(u32, u32), u32>,
 }
 
 impl Made {
@@ -118,36 +48,27 @@ impl Made {
             notes: Notes::new(alloc),
             locking: Locking::new(alloc, ground.tables.threads.names.len())?,
             is_twice: vec![in alloc; false; ground.tables.user_data.len()]?,
-            logs: Vec::new(alloc),
+            left: 0,
+            cuts: IndexMap::new(alloc),
         })
     }
 
-    /// Makes the events of a log. What left entries queued last says nothing of how it goes on.
-    pub fn make(&mut self, ground: Ground<'_>, log: &Log) -> Result<(), AllocError> {
-        let alloc = ground.alloc;
-        let mut hands = hands_of(alloc, ground.tables.threads.names.len())?;
-        let mut course = Course {
-            events: Vec::new(alloc),
-            queued: 0,
-            latest: vec![in alloc; None; ground.tables.user_data.len()]?,
-        };
-        for step in &log.steps {
-            let step = ground.tables.step(*step);
-            if let Some(hand) = hands.get_mut(step.thread as usize) {
-                self.step(ground, &mut course, hand, step)?;
-            }
+    /// The events of a log that its end cuts off, by thread, as far as they are known.
+    pub fn cuts_of(
+        &self,
+        alloc: Global,
+        log: u32,
+        threads: u32,
+    ) -> Result<Vec<Option<u32>>, AllocError> {
+        let mut cuts = Vec::new(alloc);
+        for thread in 0..threads {
+            cuts.push(self.cuts.get(&(log, thread)).copied())?;
         }
-        for thread in 0..hands.len() {
-            if let Some(hand) = hands.get_mut(thread) {
-                self.cut(ground, &mut course, hand)?;
-            }
-        }
-        self.logs.push(course.events)?;
-        Ok(())
+        Ok(cuts)
     }
 
     /// A thread does what a line says.
-    fn step(
+    pub fn step(
         &mut self,
         ground: Ground<'_>,
         course: &mut Course,
@@ -176,7 +97,7 @@ impl Made {
                 self.locking.unlock(step.thread, locks);
                 self.note_open(ground, hand, step, b" is open where the mutex is unlocked")?;
                 hand.is_unlocked = true;
-                self.close(ground, course, hand)
+                self.close(ground, course, hand, step.thread)
             }
             Says::Lock(locks) => {
                 self.locking.lock(step.thread, locks, hand.has_marked);
@@ -197,8 +118,8 @@ impl Made {
         let Some(deed) = deed_of(step.says) else {
             return self.note(ground, step.place, why_not(step.says));
         };
-        self.close(ground, course, hand)?;
-        if self.is_again(course, hand, step, &deed) {
+        self.close(ground, course, hand, step.thread)?;
+        if self.is_again(hand, step, &deed) {
             return Ok(());
         }
         if let Deed::Put { pool: _, buffer: _ } | Deed::Take { pool: _, buffer: _ } = deed {
@@ -208,47 +129,24 @@ impl Made {
     }
 
     /// Whether the thread's last event was the same touch, and it didn't unlock a mutex since.
-    fn is_again(&self, course: &Course, hand: &Hand, step: Step, deed: &Deed) -> bool {
-        let (false, Some(last)) = (hand.is_unlocked, hand.last) else {
+    fn is_again(&self, hand: &Hand, step: Step, deed: &Deed) -> bool {
+        if hand.is_unlocked || hand.last.is_none() {
             return false;
-        };
-        let Some(event) = course.events.get(last as usize) else {
-            return false;
-        };
-        match self.shapes.at(event.shape) {
+        }
+        match self.shapes.at(hand.shape) {
             Some(shape) => shape.place == step.place && is_same_touch(&shape.deed, deed),
             None => false,
         }
     }
 
     /// Notes something of a place, if there is anything.
-    fn note(&mut self, ground: Ground<'_>, place: u32, words: &[u8]) -> Result<(), AllocError> {
+    pub fn note(&mut self, ground: Ground<'_>, place: u32, words: &[u8]) -> Result<(), AllocError> {
         if words.is_empty() {
             return Ok(());
         }
         ground
             .tables
             .note(ground.alloc, &mut self.notes, place, &[words])
-    }
-
-    /// Notes what happens to an open entry, if there is one.
-    fn note_open(
-        &mut self,
-        ground: Ground<'_>,
-        hand: &Hand,
-        step: Step,
-        words: &[u8],
-    ) -> Result<(), AllocError> {
-        let Some(opened) = hand.opened else {
-            return Ok(());
-        };
-        let tables = ground.tables;
-        tables.note(
-            ground.alloc,
-            &mut self.notes,
-            step.place,
-            &[b"the entry of ", tables.places.name(opened.place), words],
-        )
     }
 
     /// A thread that uses what came with the completion that it found has it from here on.
@@ -293,109 +191,6 @@ impl Made {
         self.push(ground, course, hand, step, deed, None)
     }
 
-    /// The open entry is prepared.
-    fn prepare(
-        &mut self,
-        ground: Ground<'_>,
-        hand: &mut Hand,
-        step: Step,
-        asked: u32,
-    ) -> Result<(), AllocError> {
-        let Some(opened) = hand.opened else {
-            return self.note(ground, step.place, b"a prep without get_sqe");
-        };
-        hand.opened = Some(Opened {
-            prepared: Some((asked, step.place)),
-            ..opened
-        });
-        Ok(())
-    }
-
-    /// An entry has its user data, and is queued.
-    fn name(
-        &mut self,
-        ground: Ground<'_>,
-        course: &mut Course,
-        hand: &mut Hand,
-        step: Step,
-        token: u32,
-    ) -> Result<(), AllocError> {
-        let Some((opened, asked, prepared)) = hand.take_opened() else {
-            return self.note(ground, step.place, b"set_data64 without a prep");
-        };
-        set(&mut course.latest, token, Some(asked));
-        course.queued = course.queued.saturating_add(1);
-        if !hand.is_sending() {
-            self.begin(ground, course, hand, step)?;
-        }
-        if let Some(sending) = &mut hand.sending {
-            sending.place = step.place;
-            sending.stays = sending.stays.saturating_add(1);
-            sending.requests.push(Sent {
-                token,
-                request: ground.parts.which(token, asked),
-                opened,
-                prepared,
-                named: step.place,
-            })?;
-        }
-        Ok(())
-    }
-
-    /// Begins an event of requests, or of a submit.
-    fn begin(
-        &mut self,
-        ground: Ground<'_>,
-        course: &mut Course,
-        hand: &mut Hand,
-        step: Step,
-    ) -> Result<(), AllocError> {
-        self.close(ground, course, hand)?;
-        let event = short(course.events.len());
-        hand.sending = Some(Sending {
-            event,
-            requests: Vec::new(ground.alloc),
-            submit: Submit::None,
-            stays: 0,
-            place: step.place,
-            places: Vec::new(ground.alloc),
-            is_unlocked: hand.next(event),
-        });
-        course.events.push(Larger {
-            thread: step.thread,
-            shape: 0,
-            stays: 0,
-        })?;
-        Ok(())
-    }
-
-    /// Entries are submitted.
-    fn submit(
-        &mut self,
-        ground: Ground<'_>,
-        course: &mut Course,
-        hand: &mut Hand,
-        step: Step,
-        submit: Submit,
-        answer: i32,
-    ) -> Result<(), AllocError> {
-        course.queued = course.queued.saturating_sub(answer.max(0) as u32);
-        self.note_open(
-            ground,
-            hand,
-            step,
-            b" is submitted before it has its user data",
-        )?;
-        if hand.sending.is_none() {
-            self.begin(ground, course, hand, step)?;
-        }
-        if let Some(sending) = &mut hand.sending {
-            sending.submit = submit;
-            sending.stays = course.queued;
-        }
-        hand.add_place(step.place)
-    }
-
     /// A completion is found.
     fn peek(
         &mut self,
@@ -415,11 +210,11 @@ impl Made {
         hand.peeked = Some(Peeked {
             token,
             buffer: buffer_of(ground.tables, asked),
-            class: class_of(ground, asked, res),
+            class: class_of(ground.tables, asked, res),
             place: step.place,
             is_early: false,
         });
-        self.close(ground, course, hand)
+        self.close(ground, course, hand, step.thread)
     }
 
     /// A completion is seen.
@@ -460,108 +255,60 @@ impl Made {
         deed: Deed,
         other: Option<u32>,
     ) -> Result<(), AllocError> {
-        self.close(ground, course, hand)?;
-        let is_unlocked = hand.next(short(course.events.len()));
+        self.close(ground, course, hand, step.thread)?;
+        let is_unlocked = self.begin_event(course, hand);
         let shape = Shape {
             places: places_of(ground.alloc, &deed, step.place, other)?,
             deed,
             place: step.place,
             is_unlocked,
         };
-        let shape = self.shapes.number(ground.alloc, shape)?;
-        course.events.push(Larger {
-            thread: step.thread,
-            shape,
-            stays: 0,
-        })?;
-        Ok(())
+        hand.shape = self.shapes.number(ground.alloc, shape)?;
+        course.push(step.thread, hand.shape)
+    }
+
+    /// The next event is one of this thread: the one before isn't its last. Whether it unlocked a mutex between them.
+    pub fn begin_event(&mut self, course: &Course, hand: &mut Hand) -> bool {
+        self.left = self.left.max(hand.stays);
+        hand.next(course.next())
     }
 
     /// The requests that a thread made are an event.
-    fn close(
+    pub fn close(
         &mut self,
         ground: Ground<'_>,
         course: &mut Course,
         hand: &mut Hand,
+        thread: u32,
     ) -> Result<(), AllocError> {
         let Some(sending) = hand.sending.take() else {
             return Ok(());
         };
-        let (event, stays) = (sending.event, sending.stays);
-        let shape = self.shapes.number(ground.alloc, sending.shape())?;
-        if let Some(larger) = course.events.get_mut(event as usize) {
-            larger.shape = shape;
-            larger.stays = stays;
+        let event = sending.event;
+        hand.stays = sending.stays;
+        hand.shape = self.shapes.number(ground.alloc, sending.shape())?;
+        let mut shape = hand.shape;
+        if course.is_cut(thread, event) {
+            shape = cut_shape(ground.alloc, &mut self.shapes, shape)?;
         }
+        course.set_shape(event, thread, shape);
         Ok(())
     }
 
-    /// The log ends. A thread's last event is cut if it left entries queued.
-    fn cut(
+    /// The log ends. A thread's last event is cut off if it left entries queued: how that goes on isn't known.
+    pub fn end(
         &mut self,
         ground: Ground<'_>,
         course: &mut Course,
         hand: &mut Hand,
+        thread: u32,
     ) -> Result<(), AllocError> {
-        self.close(ground, course, hand)?;
-        let Some(last) = hand.last else {
-            return Ok(());
-        };
-        if let Some(larger) = course.events.get_mut(last as usize)
-            && larger.stays > 0
+        self.close(ground, course, hand, thread)?;
+        if let Some(last) = hand.last
+            && hand.stays > 0
         {
-            larger.stays = 0;
-            larger.shape = cut_shape(ground.alloc, &mut self.shapes, larger.shape)?;
+            self.cuts.insert((course.log, thread), last)?;
         }
         Ok(())
     }
-}
-
-/// What a thread does that sees the completion that it found.
-fn seen_deed(hand: &Hand, peeked: Peeked) -> Deed {
-    let token = peeked.token;
-    match hand.peeked {
-        Some(peeked) if peeked.is_early => Deed::Seen { token },
-        _ => Deed::Reap {
-            token,
-            class: Some(peeked.class),
-            is_early: false,
-        },
-    }
-}
-
-/// The places of an event, rising: the other one is that of the peek of a completion that is taken away at once.
-fn places_of(
-    alloc: Global,
-    deed: &Deed,
-    place: u32,
-    other: Option<u32>,
-) -> Result<Vec<u32>, AllocError> {
-    let mut places = Vec::new(alloc);
-    places.push(place)?;
-    if let Deed::Seen { token: _ } = deed {
-        return Ok(places);
-    }
-    if let Some(other) = other
-        && other != place
-    {
-        places.push(other)?;
-        places.sort()?;
-    }
-    Ok(places)
-}
-
-/// The shape of an event that the log's end cuts off.
-fn cut_shape(alloc: Global, shapes: &mut Shapes, number: u32) -> Result<u32, AllocError> {
-    let requests = Vec::from_slice(alloc, shapes.requests(number))?;
-    let Some(shape) = shapes.at(number) else {
-        return Ok(number);
-    };
-    let cut = Shape {
-        deed: Deed::Cut { requests },
-        place: shape.place,
-        places: Vec::from_slice(alloc, &shape.places)?,
-        is_unlocked: shape.is_unlocked,
-    };
-    shapes.number(alloc, cut)
 }

@@ -1,10 +1,11 @@
-//! What a replay gives: holdings, events and runs, each that is the same once.
+//! What a replay gives: holdings, events and windows, each that is the same once.
 
 use crate::ledger::Share;
-use crate::names::short;
-use crate::replayed::{Act, Event, Held, Holding, Run};
-use crate::shapes::{Deed, Shape, put_words};
+use crate::names::{at, set, short};
+use crate::replayed::{Act, Event, Held, Holding};
+use crate::shapes::{Deed, Shape};
 use crate::stage::{Stage, Stock};
+use crate::windows::{Tracks, Traits};
 use indexmap::{IndexMap, IndexSet};
 use std::alloc::{AllocError, Global};
 
@@ -32,21 +33,23 @@ const MOST_PARTS: usize = 16_000_000;
 /// What a replay gives.
 #[derive(Drop)]
 pub struct Outcome {
-    holding_keys: IndexSet<Vec<u8>>,
+    holding_keys: IndexSet<Vec<u32>>,
     pub holdings: Vec<Holding>,
     /// How many parts they have.
     parts: usize,
     /// Each event, by whether no log has it, its shape, its thing, and what was held before and after.
     keys: IndexMap<(bool, u32, Option<u32>, u32, u32), bool>,
     done: Vec<Done>,
-    pub runs: Vec<Run>,
+    pub tracks: Tracks,
+    /// Which threads reap, and which reap early.
+    pub reaps: Vec<(bool, bool)>,
 }
 
 /// The key of a holding.
-fn holding_key(alloc: Global, shares: &[Share]) -> Result<Vec<u8>, AllocError> {
+fn holding_key(alloc: Global, shares: &[Share]) -> Result<Vec<u32>, AllocError> {
     let mut key = Vec::new(alloc);
     for share in shares {
-        put_words(&mut key, &[share.part, share.count])?;
+        key.extend_from_slice(&[share.part, share.count])?;
     }
     Ok(key)
 }
@@ -64,16 +67,17 @@ fn holding_of(stage: Stage<'_>, shares: &[Share]) -> Result<Holding, AllocError>
 }
 
 impl Outcome {
-    /// Nothing.
-    pub fn new(alloc: Global) -> Outcome {
-        Outcome {
+    /// Nothing of so many threads.
+    pub fn new(alloc: Global, threads: usize) -> Result<Outcome, AllocError> {
+        Ok(Outcome {
             holding_keys: IndexSet::new(alloc),
             holdings: Vec::new(alloc),
             parts: 0,
             keys: IndexMap::new(alloc),
             done: Vec::new(alloc),
-            runs: Vec::new(alloc),
-        }
+            tracks: Tracks::new(alloc, threads)?,
+            reaps: vec![in alloc; (false, false); threads]?,
+        })
     }
 
     /// Whether there are so many holdings that no more are kept.
@@ -110,6 +114,31 @@ impl Outcome {
         Ok(number)
     }
 
+    /// A thread does an event. Answers its number.
+    pub fn add(&mut self, stage: Stage<'_>, thread: u32, done: Done) -> Result<u32, AllocError> {
+        let event = self.event(done)?;
+        if let Origin::Shape(number) = done.origin
+            && let Some(shape) = stage.shapes.at(number)
+        {
+            self.note_reap(thread, &shape.deed);
+        }
+        self.tracks.add(thread, event, traits_of(stage, done))?;
+        Ok(event)
+    }
+
+    /// A thread that reaps is one that reaps.
+    fn note_reap(&mut self, thread: u32, deed: &Deed) {
+        if let Deed::Reap {
+            token: _,
+            class: _,
+            is_early,
+        } = deed
+        {
+            let (_, was_early) = at(&self.reaps, thread, (false, false));
+            set(&mut self.reaps, thread, (true, was_early || *is_early));
+        }
+    }
+
     /// The events.
     pub fn events(&self, stage: Stage<'_>, stocks: &[Stock]) -> Result<Vec<Event>, AllocError> {
         let mut events = Vec::new(stage.ground.alloc);
@@ -121,6 +150,34 @@ impl Outcome {
             events.push(event)?;
         }
         Ok(events)
+    }
+}
+
+/// What an event is, of what windows depend on.
+fn traits_of(stage: Stage<'_>, done: Done) -> Traits {
+    let Origin::Shape(number) = done.origin else {
+        return Traits {
+            is_put: true,
+            is_known: done.thing.is_some(),
+        };
+    };
+    match stage.shapes.at(number) {
+        Some(shape) => traits_by(&shape.deed, done.thing),
+        None => Traits {
+            is_put: false,
+            is_known: false,
+        },
+    }
+}
+
+/// What an event of this deed is.
+fn traits_by(deed: &Deed, thing: Option<u32>) -> Traits {
+    let is_put = matches!(deed, Deed::Put { pool: _, buffer: _ });
+    let is_take = matches!(deed, Deed::Take { pool: _, buffer: _ });
+    let is_cut = matches!(deed, Deed::Cut { requests: _ });
+    Traits {
+        is_put,
+        is_known: !is_cut && (thing.is_some() || !is_put && !is_take),
     }
 }
 

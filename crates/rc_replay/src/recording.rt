@@ -1,14 +1,13 @@
 //! Recording logs.
 
-use crate::lines::{declared_says, says_of};
+use crate::glance::Look;
 use crate::mutexes::Mutexes;
-use crate::names::add_name;
-use crate::steps::{Log, Names, Says, Step};
+use crate::steps::{Log, Names, Step};
+use crate::sums::{NO_SUM, summed};
+use crate::told::{Told, told_by};
 use rc_lang::program::Program;
 use rc_log::call::Why;
-use rc_log::declared::read_declared;
 use rc_log::head::{is_head, read_ring};
-use rc_log::line::read_line;
 use rc_log::reader::{LogFault, LogReader, Next};
 use rc_log::words::word_at;
 use rc_read::read_program;
@@ -19,9 +18,10 @@ use std::io::Read;
 /// A model that has nothing, to which lines are held to see whether they can be read.
 const NOTHING: &[u8] = b"ringcheck 5\nring 1\n";
 
-/// Logs that were read.
+/// Logs that were read. Their lines aren't kept.
 #[derive(Drop)]
 pub struct Recorder {
+    pub(crate) program: Program,
     pub(crate) names: Names,
     pub(crate) logs: Vec<Log>,
 }
@@ -39,19 +39,24 @@ pub enum Recorded {
 
 impl Recorder {
     /// No logs.
-    pub fn new(alloc: Global) -> Recorder {
-        Recorder {
+    pub fn new(alloc: Global) -> Result<Recorder, AllocError> {
+        Ok(Recorder {
+            program: nothing(alloc)?,
             names: Names::new(alloc),
             logs: Vec::new(alloc),
-        }
+        })
     }
 }
 
 /// A log under way.
 #[derive(Drop)]
 struct Draft {
-    log: Log,
+    sum: u64,
+    entries: u32,
+    completions: u32,
+    steps: u64,
     mutexes: Mutexes,
+    look: Look,
 }
 
 /// Records a log. Answers `Failed` where a read failed, `OutOfMemory` where a growth was refused, and no other `Err`.
@@ -63,15 +68,14 @@ pub fn record_log<R: Read + Drop>(
 ) -> Result<Recorded, LogFault> {
     let counts = recorder.names.counts();
     let mut draft = Draft {
-        log: Log {
-            sum: 0xcbf2_9ce4_8422_2325,
-            entries: 0,
-            completions: 0,
-            steps: Vec::new(alloc),
-        },
+        sum: NO_SUM,
+        entries: 0,
+        completions: 0,
+        steps: 0,
         mutexes: Mutexes::new(),
+        look: Look::new(alloc),
     };
-    match record_lines(alloc, &mut recorder.names, &mut draft, reader) {
+    match record_lines(alloc, recorder, &mut draft, reader) {
         Ok(Recorded::Read) => keep(recorder, draft, Recorded::Read),
         Ok(Recorded::Full) => keep(recorder, draft, Recorded::Full),
         other => {
@@ -81,26 +85,40 @@ pub fn record_log<R: Read + Drop>(
     }
 }
 
-/// Keeps a log that was read.
+/// Keeps what a log was that was read.
 fn keep(recorder: &mut Recorder, draft: Draft, recorded: Recorded) -> Result<Recorded, LogFault> {
-    recorder.logs.push(draft.log).map_err(AllocError::from)?;
+    let Draft {
+        sum,
+        entries,
+        completions,
+        steps,
+        mutexes: _,
+        look,
+    } = draft;
+    let log = Log {
+        sum,
+        entries,
+        completions,
+        steps,
+        glance: look.into_glance(),
+    };
+    recorder.logs.push(log).map_err(AllocError::from)?;
     Ok(recorded)
 }
 
 /// Records the lines of a log.
 fn record_lines<R: Read + Drop>(
     alloc: Global,
-    names: &mut Names,
+    recorder: &mut Recorder,
     draft: &mut Draft,
     reader: R,
 ) -> Result<Recorded, LogFault> {
-    let program = nothing(alloc)?;
     let mut log = LogReader::new(alloc, reader)?;
     if let Some(recorded) = read_heads(alloc, draft, &mut log)? {
         return Ok(recorded);
     }
     for number in 3..u64::MAX {
-        if let Some(recorded) = record_next(alloc, &program, names, draft, &mut log, number)? {
+        if let Some(recorded) = record_next(alloc, recorder, draft, &mut log, number)? {
             return Ok(recorded);
         }
     }
@@ -160,8 +178,8 @@ fn read_rings<R: Read>(
             let Some((entries, completions)) = read_ring(log.line()) else {
                 return Ok(Some(unreadable(alloc, 2, Why::NoRing)?));
             };
-            draft.log.entries = entries;
-            draft.log.completions = completions;
+            draft.entries = entries;
+            draft.completions = completions;
             Ok(None)
         }
         Ok(_) => Ok(Some(unreadable(alloc, 2, Why::NoRing)?)),
@@ -172,14 +190,13 @@ fn read_rings<R: Read>(
 /// Records the next line, which has this number. Answers how the log ends here if it does.
 fn record_next<R: Read>(
     alloc: Global,
-    program: &Program,
-    names: &mut Names,
+    recorder: &mut Recorder,
     draft: &mut Draft,
     log: &mut LogReader<R>,
     number: u64,
 ) -> Result<Option<Recorded>, LogFault> {
     match log.next_line() {
-        Ok(Next::Line) => Ok(record_line(alloc, program, names, draft, log.line(), number)?),
+        Ok(Next::Line) => Ok(record_line(alloc, recorder, draft, log.line(), number)?),
         Ok(Next::End) => Ok(Some(Recorded::Read)),
         Ok(Next::Full) => Ok(Some(Recorded::Full)),
         Err(fault) => Ok(Some(too_long(alloc, number, fault)?)),
@@ -189,82 +206,38 @@ fn record_next<R: Read>(
 /// Records a line. Answers how the log ends here if it does.
 fn record_line(
     alloc: Global,
-    program: &Program,
-    names: &mut Names,
+    recorder: &mut Recorder,
     draft: &mut Draft,
     line: &[u8],
     number: u64,
 ) -> Result<Option<Recorded>, AllocError> {
-    draft.log.sum = summed(draft.log.sum, line);
-    match read_line(program, line) {
-        Ok(said) => {
-            let Some(says) = says_of(alloc, names, line, said.call)? else {
-                return Ok(None);
-            };
-            record_step(alloc, names, draft, line, number, says)
-        }
-        Err(Why::NoCall) => record_declared(alloc, names, draft, line, number),
-        Err(why) => wrong_line(alloc, number, line, why),
+    draft.sum = summed(draft.sum, line);
+    match told_by(alloc, &recorder.program, &mut recorder.names, line)? {
+        Told::Nothing => Ok(None),
+        Told::Step(step) => record_step(alloc, &recorder.names, draft, step, number),
+        Told::Wrong(why) => wrong_line(alloc, number, line, why),
     }
 }
 
-/// Adds the bytes of a line to a sum (FNV-1a).
-fn summed(sum: u64, line: &[u8]) -> u64 {
-    let mut sum = sum;
-    for byte in line {
-        sum = (sum ^ u64::from(*byte)).wrapping_mul(0x0000_0100_0000_01b3);
-    }
-    (sum ^ 10).wrapping_mul(0x0000_0100_0000_01b3)
-}
-
-/// Keeps what a thread's line says, unless it misuses a mutex.
+/// Looks at what a line says, unless it misuses a mutex.
 fn record_step(
     alloc: Global,
-    names: &mut Names,
+    names: &Names,
     draft: &mut Draft,
-    line: &[u8],
+    step: Step,
     number: u64,
-    says: Says,
 ) -> Result<Option<Recorded>, AllocError> {
-    let thread = add_name(alloc, &mut names.threads, word_at(line, 0))?;
-    let place = add_name(alloc, &mut names.places, word_at(line, 1))?;
-    let step = Step {
-        thread,
-        place,
-        says,
-    };
-    match draft.mutexes.misuse(alloc, names, thread, says)? {
+    match draft.mutexes.misuse(alloc, names, step.thread, step.says)? {
         Some(why) => Ok(Some(Recorded::Unreadable { number, why })),
-        None => push_step(draft, step),
+        None => look_at(names, draft, step),
     }
 }
 
-/// Keeps a step.
-fn push_step(draft: &mut Draft, step: Step) -> Result<Option<Recorded>, AllocError> {
-    draft.log.steps.push(step)?;
+/// Looks at what a line says.
+fn look_at(names: &Names, draft: &mut Draft, step: Step) -> Result<Option<Recorded>, AllocError> {
+    draft.steps = draft.steps.saturating_add(1);
+    draft.look.look_at(names, step)?;
     Ok(None)
-}
-
-/// Keeps what a line declares.
-fn record_declared(
-    alloc: Global,
-    names: &mut Names,
-    draft: &mut Draft,
-    line: &[u8],
-    number: u64,
-) -> Result<Option<Recorded>, AllocError> {
-    match read_declared(line) {
-        Ok(declared) => {
-            let says = declared_says(alloc, names, declared)?;
-            let step = Step {
-                thread: 0,
-                place: 0,
-                says,
-            };
-            push_step(draft, step)
-        }
-        Err(why) => wrong_line(alloc, number, line, why),
-    }
 }
 
 /// A line that can't be read; where its words after the call are wrong, with the call.

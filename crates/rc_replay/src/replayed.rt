@@ -2,6 +2,7 @@
 //!
 //! All tables are in an order that doesn't depend on the order in which the logs are named.
 
+use crate::windows::Windows;
 use rc_lang::lines::Locks;
 
 /// What a thread holds, or has to itself.
@@ -99,6 +100,10 @@ pub struct Thread {
     pub start: u32,
     /// Mutexes that it locks first and never unlocks, and that nobody else locks.
     pub keeps: Option<Locks>,
+    /// Whether it takes completions away.
+    pub has_reaps: bool,
+    /// Whether it uses what came with one before it sees it.
+    pub has_early: bool,
 }
 
 /// A request that is made, and the places of its `get_sqe`, its prep and its `set_data64`.
@@ -193,14 +198,6 @@ pub struct Event {
     pub places: Vec<u32>,
 }
 
-/// The events of a thread in a log, in order.
-#[derive(Drop)]
-pub struct Run {
-    pub log: u32,
-    pub thread: u32,
-    pub events: Vec<u32>,
-}
-
 /// What the replay of logs gives. Parts are named by their places in these tables.
 #[derive(Drop)]
 pub struct Replayed {
@@ -225,8 +222,8 @@ pub struct Replayed {
     pub places: Vec<Vec<u8>>,
     pub holdings: Vec<Holding>,
     pub events: Vec<Event>,
-    /// By log and then thread. Logs are by their contents.
-    pub runs: Vec<Run>,
+    /// Of each thread: which events follow each other.
+    pub windows: Vec<Windows>,
     /// Whether the two sides of the ring have mutexes of their own.
     pub has_sides: bool,
     /// The most entries that stay queued where the mutex is unlocked.

@@ -4,14 +4,14 @@ use crate::ahead::{look_ahead, touches_of};
 use crate::choosing::{
     Choice, borrows, choose_put, choose_take, fresh_for, is_plain, later_put, lends,
 };
-use crate::making::{Larger, Made};
+use crate::course::{Course, Larger};
 use crate::names::{at, set, short};
 use crate::notes::Notes;
 use crate::outcome::{Done, Origin, Outcome};
 use crate::playing::Play;
-use crate::replayed::Run;
 use crate::shapes::Deed;
 use crate::stage::{Learned, Moment, Moved, Scene, Stage, Stock};
+use crate::visitor::Visitor;
 use std::alloc::AllocError;
 
 /// What is said of a take of what isn't there, before and after the pool.
@@ -28,55 +28,17 @@ pub struct Pass {
     pub is_kept: bool,
 }
 
-/// Replays all logs once.
-pub fn pass_over(stage: Stage<'_>, made: &Made, learned: &mut Learned) -> Result<Pass, AllocError> {
-    let alloc = stage.ground.alloc;
-    let mut pass = Pass {
-        outcome: Outcome::new(alloc),
-        notes: Notes::new(alloc),
-        is_kept: learned.is_used,
-    };
-    learned.is_grown = false;
-    for (log, events) in made.logs.iter().enumerate() {
-        let ahead = look_ahead(
-            alloc,
-            stage.shapes,
-            events,
-            stage.ground.tables.threads.names.len(),
-            stage.ground.tables.pools.names.len(),
-        )?;
-        let touches = touches_of(alloc, stage.shapes, stage.ground.parts, events)?;
-        let scene = Scene {
-            stage,
-            events,
-            ahead: &ahead,
-            touches: &touches,
-        };
-        pass.play_log(scene, learned, short(log))?;
-    }
-    if pass.outcome.is_full() {
-        pass.notes.add(
-            b"threads hold too many things at a time: the logs are replayed in part".to_vec(alloc)?,
-        )?;
-    }
-    Ok(pass)
-}
-
-/// The runs of a log, by thread.
-fn runs_of(scene: Scene<'_>, log: u32) -> Result<Vec<Run>, AllocError> {
-    let alloc = scene.stage.ground.alloc;
-    let mut runs = Vec::new(alloc);
-    for thread in 0..short(scene.stage.ground.tables.threads.names.len()) {
-        runs.push(Run {
-            log,
-            thread,
-            events: Vec::new(alloc),
-        })?;
-    }
-    Ok(runs)
-}
-
 impl Pass {
+    /// Before the first log.
+    pub fn new(stage: Stage<'_>, is_kept: bool) -> Result<Pass, AllocError> {
+        let alloc = stage.ground.alloc;
+        Ok(Pass {
+            outcome: Outcome::new(alloc, stage.ground.tables.threads.names.len())?,
+            notes: Notes::new(alloc),
+            is_kept,
+        })
+    }
+
     /// What a thread has, by its number among the holdings.
     fn holding(
         &mut self,
@@ -95,71 +57,107 @@ impl Pass {
         Ok(number)
     }
 
-    /// Adds an event to the run of a thread.
-    fn add_event(&mut self, runs: &mut [Run], thread: u32, done: Done) -> Result<(), AllocError> {
+    /// A thread has done an event.
+    fn add_event<V: Visitor>(
+        &mut self,
+        stage: Stage<'_>,
+        visitor: &mut V,
+        thread: u32,
+        done: Done,
+    ) -> Result<(), AllocError> {
         if !self.is_kept || self.outcome.is_full() {
             return Ok(());
         }
-        let event = self.outcome.event(done)?;
-        if let Some(run) = runs.get_mut(thread as usize) {
-            run.events.push(event)?;
-        }
-        Ok(())
+        let event = self.outcome.add(stage, thread, done)?;
+        visitor.visit(thread, event)
     }
 
-    /// Replays a log.
-    fn play_log(
+    /// Replays the next events of a log, so many.
+    pub fn play<V: Visitor>(
+        &mut self,
+        stage: Stage<'_>,
+        learned: &mut Learned,
+        play: &mut Play,
+        visitor: &mut V,
+        course: &Course,
+        count: usize,
+    ) -> Result<(), AllocError> {
+        let alloc = stage.ground.alloc;
+        let tables = stage.ground.tables;
+        let (events, first) = (course.events.as_slice(), course.first);
+        let ahead = look_ahead(
+            alloc,
+            stage.shapes,
+            events,
+            first,
+            tables.threads.names.len(),
+            tables.pools.names.len(),
+        )?;
+        let touches = touches_of(alloc, stage.shapes, stage.ground.parts, events, first)?;
+        let scene = Scene {
+            stage,
+            first,
+            events,
+            ahead: &ahead,
+            touches: &touches,
+        };
+        play.look_at(scene)?;
+        self.play_events(scene, learned, play, visitor, count)
+    }
+
+    /// Replays the first events of a part of a log, so many.
+    fn play_events<V: Visitor>(
         &mut self,
         scene: Scene<'_>,
         learned: &mut Learned,
-        log: u32,
+        play: &mut Play,
+        visitor: &mut V,
+        count: usize,
     ) -> Result<(), AllocError> {
-        let mut play = Play::new(scene, learned)?;
-        let mut runs = runs_of(scene, log)?;
-        self.stock(scene, learned, &mut play, &mut runs)?;
-        for (place, event) in scene.events.iter().enumerate() {
-            let done = self.play_event(scene, learned, &mut play, *event, short(place))?;
-            self.add_event(&mut runs, event.thread, done)?;
-        }
-        self.keep(runs)
-    }
-
-    /// Keeps the runs that have events.
-    fn keep(&mut self, runs: Vec<Run>) -> Result<(), AllocError> {
-        for run in runs {
-            if !run.events.is_empty() {
-                self.outcome.runs.push(run)?;
-            }
+        for (place, event) in scene.events.iter().take(count).enumerate() {
+            let number = scene.first.saturating_add(short(place));
+            let done = self.play_event(scene, learned, play, *event, number)?;
+            self.add_event(scene.stage, visitor, event.thread, done)?;
         }
         Ok(())
     }
 
     /// Puts into pools what lies there from the beginning.
-    fn stock(
+    pub fn stock<V: Visitor>(
         &mut self,
-        scene: Scene<'_>,
+        stage: Stage<'_>,
         learned: &Learned,
         play: &mut Play,
-        runs: &mut [Run],
+        visitor: &mut V,
     ) -> Result<(), AllocError> {
-        let stage = scene.stage;
         for (number, stock) in learned.stocks.iter().enumerate() {
-            let before = self.holding(stage, play, stock.thread)?;
-            let moved = Moved {
-                thing: stock.thing,
-                is_lent: false,
-            };
-            play.pass(stage, stock.thread, stage.owner_of(stock.pool), moved)?;
-            let after = self.holding(stage, play, stock.thread)?;
-            let done = Done {
-                origin: Origin::Stock(short(number)),
-                thing: Some(stock.thing),
-                before,
-                after,
-            };
-            self.add_event(runs, stock.thread, done)?;
+            let done = self.play_stock(stage, play, *stock, short(number))?;
+            self.add_event(stage, visitor, stock.thread, done)?;
         }
         Ok(())
+    }
+
+    /// Puts a thing into a pool that lies there from the beginning.
+    fn play_stock(
+        &mut self,
+        stage: Stage<'_>,
+        play: &mut Play,
+        stock: Stock,
+        number: u32,
+    ) -> Result<Done, AllocError> {
+        let before = self.holding(stage, play, stock.thread)?;
+        let moved = Moved {
+            thing: stock.thing,
+            is_lent: false,
+        };
+        play.pass(stage, stock.thread, stage.owner_of(stock.pool), moved)?;
+        let after = self.holding(stage, play, stock.thread)?;
+        Ok(Done {
+            origin: Origin::Stock(number),
+            thing: Some(stock.thing),
+            before,
+            after,
+        })
     }
 
     /// Replays an event.
@@ -169,7 +167,7 @@ impl Pass {
         learned: &mut Learned,
         play: &mut Play,
         event: Larger,
-        place: u32,
+        number: u32,
     ) -> Result<Done, AllocError> {
         let stage = scene.stage;
         let mut done = Done {
@@ -182,7 +180,7 @@ impl Pass {
             return Ok(done);
         };
         let moment = Moment {
-            event: place,
+            event: number,
             thread: event.thread,
             place: shape.place,
         };
@@ -191,6 +189,7 @@ impl Pass {
         done.before = self.holding(stage, play, event.thread)?;
         let moved = moved_by(scene, play, moment, &shape.deed, thing);
         play.apply(stage, &mut self.notes, moment, &shape.deed, moved)?;
+        play.marks.pass(moment, &shape.deed);
         done.after = self.holding(stage, play, event.thread)?;
         Ok(done)
     }

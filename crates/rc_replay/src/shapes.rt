@@ -1,6 +1,6 @@
 //! What larger events are, before it is known what they move. Those that are the same are one.
 
-use crate::names::{add_name, short};
+use crate::names::short;
 use crate::replayed::{Class, Sent, Submit};
 use indexmap::IndexSet;
 use std::alloc::{AllocError, Global};
@@ -51,16 +51,8 @@ pub struct Shape {
 /// All shapes, each once.
 #[derive(Drop)]
 pub struct Shapes {
-    keys: IndexSet<Vec<u8>>,
+    keys: IndexSet<Vec<u32>>,
     pub shapes: Vec<Shape>,
-}
-
-/// Adds numbers to a key.
-pub fn put_words(key: &mut Vec<u8>, words: &[u32]) -> Result<(), AllocError> {
-    for word in words {
-        key.extend_from_slice(&word.to_le_bytes())?;
-    }
-    Ok(())
 }
 
 /// An optional number in a key, as two numbers.
@@ -92,70 +84,64 @@ fn class_word(class: Option<Class>) -> u32 {
 }
 
 /// Adds requests to a key.
-fn put_requests(key: &mut Vec<u8>, requests: &[Sent]) -> Result<(), AllocError> {
+fn put_requests(key: &mut Vec<u32>, requests: &[Sent]) -> Result<(), AllocError> {
     for sent in requests {
-        put_words(
-            key,
-            &[
-                sent.token,
-                sent.request,
-                sent.opened,
-                sent.prepared,
-                sent.named,
-            ],
-        )?;
+        key.extend_from_slice(&[
+            sent.token,
+            sent.request,
+            sent.opened,
+            sent.prepared,
+            sent.named,
+        ])?;
     }
     Ok(())
 }
 
 /// Adds a deed to a key.
-fn put_deed(key: &mut Vec<u8>, deed: &Deed) -> Result<(), AllocError> {
+fn put_deed(key: &mut Vec<u32>, deed: &Deed) -> Result<(), AllocError> {
     match deed {
         Deed::Send { requests, submit } => {
             let [how, count] = submit_word(*submit);
-            put_words(key, &[0, how, count])?;
+            key.extend_from_slice(&[0, how, count])?;
             put_requests(key, requests)
         }
         Deed::Cut { requests } => {
-            put_words(key, &[1])?;
+            key.extend_from_slice(&[1])?;
             put_requests(key, requests)
         }
         Deed::Submit(submit) => {
             let [how, count] = submit_word(*submit);
-            put_words(key, &[2, how, count])
+            key.extend_from_slice(&[2, how, count])
         }
         Deed::Reap {
             token,
             class,
             is_early,
-        } => put_words(key, &[3, *token, class_word(*class), u32::from(*is_early)]),
-        Deed::Seen { token } => put_words(key, &[4, *token]),
+        } => key.extend_from_slice(&[3, *token, class_word(*class), u32::from(*is_early)]),
+        Deed::Seen { token } => key.extend_from_slice(&[4, *token]),
         Deed::Put { pool, buffer } => {
             let [is_named, buffer] = spelled(*buffer);
-            put_words(key, &[5, *pool, is_named, buffer])
+            key.extend_from_slice(&[5, *pool, is_named, buffer])
         }
         Deed::Take { pool, buffer } => {
             let [is_named, buffer] = spelled(*buffer);
-            put_words(key, &[6, *pool, is_named, buffer])
+            key.extend_from_slice(&[6, *pool, is_named, buffer])
         }
-        Deed::Fill(buffer) => put_words(key, &[7, *buffer]),
-        Deed::Load(buffer) => put_words(key, &[8, *buffer]),
-        Deed::End => put_words(key, &[9]),
+        Deed::Fill(buffer) => key.extend_from_slice(&[7, *buffer]),
+        Deed::Load(buffer) => key.extend_from_slice(&[8, *buffer]),
+        Deed::End => key.extend_from_slice(&[9]),
     }
 }
 
 /// By what shapes are the same.
-fn key_of(alloc: Global, shape: &Shape) -> Result<Vec<u8>, AllocError> {
+fn key_of(alloc: Global, shape: &Shape) -> Result<Vec<u32>, AllocError> {
     let mut key = Vec::new(alloc);
-    put_words(
-        &mut key,
-        &[
-            shape.place,
-            u32::from(shape.is_unlocked),
-            short(shape.places.len()),
-        ],
-    )?;
-    put_words(&mut key, &shape.places)?;
+    key.extend_from_slice(&[
+        shape.place,
+        u32::from(shape.is_unlocked),
+        short(shape.places.len()),
+    ])?;
+    key.extend_from_slice(&shape.places)?;
     put_deed(&mut key, &shape.deed)?;
     Ok(key)
 }
@@ -172,10 +158,12 @@ impl Shapes {
     /// The number of a shape, which is added where it is new.
     pub fn number(&mut self, alloc: Global, shape: Shape) -> Result<u32, AllocError> {
         let key = key_of(alloc, &shape)?;
-        let number = add_name(alloc, &mut self.keys, &key)?;
-        if number as usize == self.shapes.len() {
-            self.shapes.push(shape)?;
+        if let Some(number) = self.keys.get_index_of(key.as_slice()) {
+            return Ok(short(number));
         }
+        let number = short(self.shapes.len());
+        self.shapes.push(shape)?;
+        self.keys.insert(key)?;
         Ok(number)
     }
 

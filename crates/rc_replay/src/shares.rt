@@ -1,6 +1,5 @@
-//! How many shares buffers have, and which threads send and reap tokens that nobody else does.
+//! How many shares buffers have.
 
-use crate::making::Made;
 use crate::names::{at, set};
 use crate::parts::Parts;
 use crate::replayed::{Kind, Sent};
@@ -9,7 +8,7 @@ use std::alloc::{AllocError, Global};
 
 /// The writes that are out, and who reads buffers.
 #[derive(Drop)]
-struct Writes {
+pub struct Writes {
     /// Of each buffer: the most writes and readers of it at a time.
     shares: Vec<u32>,
     /// Of each buffer how many writes are out.
@@ -29,35 +28,32 @@ struct Reader {
     puts: u32,
 }
 
-/// Of each buffer, the most writes and readers of it at a time.
-pub fn shares_of(
-    alloc: Global,
-    made: &Made,
-    parts: &Parts,
-    buffers: usize,
-    threads: usize,
-) -> Result<Vec<u32>, AllocError> {
-    let mut writes = Writes {
-        shares: vec![in alloc; 1; buffers]?,
-        counts: Vec::new(alloc),
-        out: Vec::new(alloc),
-        readers: Vec::new(alloc),
-        puts: Vec::new(alloc),
-    };
-    for events in &made.logs {
-        writes.begin_log(alloc, buffers, parts.thing_of.len(), threads)?;
-        for event in events {
-            if let Some(shape) = made.shapes.at(event.shape) {
-                writes.step(parts, event.thread, &shape.deed)?;
-            }
-        }
-    }
-    Ok(writes.shares)
-}
-
 impl Writes {
+    /// No log has begun: so many buffers.
+    pub fn new(alloc: Global, buffers: usize) -> Result<Writes, AllocError> {
+        Ok(Writes {
+            shares: vec![in alloc; 1; buffers]?,
+            counts: Vec::new(alloc),
+            out: Vec::new(alloc),
+            readers: Vec::new(alloc),
+            puts: Vec::new(alloc),
+        })
+    }
+
+    /// Of each buffer: the most writes and readers of it at a time.
+    pub fn into_shares(self) -> Vec<u32> {
+        let Writes {
+            shares,
+            counts: _,
+            out: _,
+            readers: _,
+            puts: _,
+        } = self;
+        shares
+    }
+
     /// A log begins.
-    fn begin_log(
+    pub fn begin_log(
         &mut self,
         alloc: Global,
         buffers: usize,
@@ -75,7 +71,7 @@ impl Writes {
     }
 
     /// A thread does something.
-    fn step(&mut self, parts: &Parts, thread: u32, deed: &Deed) -> Result<(), AllocError> {
+    pub fn step(&mut self, parts: &Parts, thread: u32, deed: &Deed) -> Result<(), AllocError> {
         match deed {
             Deed::Reap {
                 token,
@@ -180,95 +176,5 @@ fn written(parts: &Parts, sent: Sent) -> Option<u32> {
     match request.kind {
         Kind::Write => request.buffer,
         _ => None,
-    }
-}
-
-/// Who does something with a token.
-#[derive(Clone, Copy)]
-enum Who {
-    Nobody,
-    One(u32),
-    Several,
-}
-
-/// Who sends each token, and who sends or reaps it.
-#[derive(Drop)]
-pub struct Users {
-    senders: Vec<Who>,
-    all: Vec<Who>,
-    /// Of each thread: whether it sends, and nobody else sends or reaps what it does.
-    pub is_alone: Vec<bool>,
-}
-
-/// Adds a thread to those that do something with a token.
-fn add_who(who: &mut [Who], token: u32, thread: u32) {
-    let now = match at(who, token, Who::Nobody) {
-        Who::Nobody => Who::One(thread),
-        Who::One(other) if other == thread => Who::One(thread),
-        _ => Who::Several,
-    };
-    set(who, token, now);
-}
-
-/// Who sends and reaps each token.
-pub fn users_of(
-    alloc: Global,
-    made: &Made,
-    tokens: usize,
-    threads: usize,
-) -> Result<Users, AllocError> {
-    let mut users = Users {
-        senders: vec![in alloc; Who::Nobody; tokens]?,
-        all: vec![in alloc; Who::Nobody; tokens]?,
-        is_alone: vec![in alloc; false; threads]?,
-    };
-    for is_known in [false, true] {
-        for events in &made.logs {
-            for event in events {
-                if let Some(shape) = made.shapes.at(event.shape) {
-                    users.step(&shape.deed, event.thread, is_known);
-                }
-            }
-        }
-    }
-    Ok(users)
-}
-
-impl Users {
-    /// A thread does something: it is noted, or it is known what all do, and the thread is found not to be alone.
-    fn step(&mut self, deed: &Deed, thread: u32, is_known: bool) {
-        if let Deed::Reap {
-            token,
-            class: _,
-            is_early: _,
-        } = deed
-        {
-            self.use_token(*token, thread, is_known);
-        }
-        for sent in requests_of(deed) {
-            if !is_known {
-                add_who(&mut self.senders, sent.token, thread);
-                set(&mut self.is_alone, thread, true);
-            }
-            self.use_token(sent.token, thread, is_known);
-        }
-    }
-
-    /// A thread sends or reaps a token.
-    fn use_token(&mut self, token: u32, thread: u32, is_known: bool) {
-        if !is_known {
-            add_who(&mut self.all, token, thread);
-            return;
-        }
-        if !self.is_of_one(token) {
-            set(&mut self.is_alone, thread, false);
-        }
-    }
-
-    /// Whether one thread alone sends and reaps a token.
-    pub fn is_of_one(&self, token: u32) -> bool {
-        let all = at(&self.all, token, Who::Several);
-        let senders = at(&self.senders, token, Who::Several);
-        matches!((all, senders), (Who::One(_), Who::One(_)))
     }
 }

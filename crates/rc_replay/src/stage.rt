@@ -1,12 +1,13 @@
 //! What a log is replayed with, and what was learned of all logs before.
 
 use crate::ahead::{Ahead, NEVER, NOTHING, Touch};
+use crate::course::Larger;
 use crate::ledger::{Share, count_in, set_in};
-use crate::making::{Ground, Larger};
+use crate::making::Ground;
 use crate::names::{at, short};
 use crate::replayed::{Kind, Part};
 use crate::shapes::{Deed, Shapes, requests_of};
-use crate::shares::Users;
+use crate::users::Users;
 use indexmap::IndexMap;
 use std::alloc::{AllocError, Global};
 
@@ -20,16 +21,18 @@ pub struct Stage<'a> {
     pub users: &'a Users,
 }
 
-/// A log that is replayed.
+/// A part of a log that is replayed.
 #[derive(Clone, Copy)]
 pub struct Scene<'a> {
     pub stage: Stage<'a>,
+    /// The number of its first event.
+    pub first: u32,
     pub events: &'a [Larger],
     pub ahead: &'a [Ahead],
     pub touches: &'a [Vec<Touch>],
 }
 
-/// Where a log is: an event by its place, its thread, and its place in C.
+/// Where a log is: an event by its number, its thread, and its place in C.
 #[derive(Clone, Copy)]
 pub struct Moment {
     pub event: u32,
@@ -69,19 +72,38 @@ pub struct Learned {
 }
 
 impl Learned {
-    /// Nothing, of so many threads.
-    pub fn new(alloc: Global, threads: usize) -> Result<Learned, AllocError> {
-        let mut starts = Vec::new(alloc);
-        for _ in 0..threads {
-            starts.push(Vec::new(alloc))?;
-        }
-        Ok(Learned {
-            starts,
+    /// Nothing, of no threads.
+    pub fn none(alloc: Global) -> Learned {
+        Learned {
+            starts: Vec::new(alloc),
             stocks: Vec::new(alloc),
             homes: IndexMap::new(alloc),
             is_used: false,
             is_grown: false,
-        })
+        }
+    }
+
+    /// Nothing, of so many threads.
+    pub fn new(alloc: Global, threads: usize) -> Result<Learned, AllocError> {
+        let mut learned = Learned::none(alloc);
+        for _ in 0..threads {
+            learned.starts.push(Vec::new(alloc))?;
+        }
+        Ok(learned)
+    }
+
+    /// The same once more.
+    pub fn copied(&self, alloc: Global) -> Result<Learned, AllocError> {
+        let mut copied = Learned::none(alloc);
+        for shares in &self.starts {
+            copied.starts.push(Vec::from_slice(alloc, shares)?)?;
+        }
+        copied.stocks = Vec::from_slice(alloc, &self.stocks)?;
+        for home in self.homes.keys() {
+            copied.homes.insert(*home, true)?;
+        }
+        copied.is_used = self.is_used;
+        Ok(copied)
     }
 
     /// A thread begins with so many more of a part.
@@ -215,14 +237,23 @@ impl<'a> Stage<'a> {
 }
 
 impl Scene<'_> {
+    /// An event by its number, if it is among those that are looked at.
+    pub fn event(&self, event: u32) -> Option<Larger> {
+        let place = event.checked_sub(self.first)?;
+        self.events.get(place as usize).copied()
+    }
+
     /// What comes after an event.
     pub fn ahead(&self, event: u32) -> Ahead {
-        at(self.ahead, event, NOTHING)
+        match event.checked_sub(self.first) {
+            Some(place) => at(self.ahead, place, NOTHING),
+            None => NOTHING,
+        }
     }
 
     /// Whether an event needs all shares of a buffer.
     pub fn needs_all(&self, event: u32, buffer: u32) -> bool {
-        let Some(larger) = self.events.get(event as usize) else {
+        let Some(larger) = self.event(event) else {
             return true;
         };
         let Some(shape) = self.stage.shapes.at(larger.shape) else {

@@ -1,7 +1,8 @@
 //! The lines of logs, as they are kept: names are by their numbers, in the order in which they came first.
 
+use crate::glance::Glance;
 use crate::replayed::Kind;
-use indexmap::IndexSet;
+use indexmap::{IndexMap, IndexSet};
 use rc_lang::lines::Locks;
 use std::alloc::Global;
 
@@ -73,14 +74,16 @@ pub struct Asked {
     pub is_unsaid: bool,
 }
 
-/// A log.
+/// A log that was recorded. Its lines aren't kept.
 #[derive(Drop)]
 pub struct Log {
-    /// A sum of its bytes, by which logs are in an order.
+    /// A sum of its bytes, by which logs are in an order, and which tells whether one has changed.
     pub sum: u64,
     pub entries: u32,
     pub completions: u32,
-    pub steps: Vec<Step>,
+    /// How many lines it has that say something.
+    pub steps: u64,
+    pub glance: Glance,
 }
 
 /// What the lines of logs name.
@@ -96,6 +99,15 @@ pub struct Names {
     pub preps: IndexSet<Vec<u8>>,
     /// What each prep asks for.
     pub asked: Vec<Asked>,
+    /// Lines, by their sums.
+    pub lines: IndexMap<u64, Kept>,
+}
+
+/// A line, and what it says, if that is kept.
+#[derive(Drop)]
+pub struct Kept {
+    pub line: Vec<u8>,
+    pub step: Option<Step>,
 }
 
 /// How many there are of each.
@@ -107,6 +119,7 @@ pub struct Counts {
     pools: usize,
     tokens: usize,
     preps: usize,
+    lines: usize,
 }
 
 impl Names {
@@ -120,6 +133,7 @@ impl Names {
             tokens: IndexSet::new(alloc),
             preps: IndexSet::new(alloc),
             asked: Vec::new(alloc),
+            lines: IndexMap::new(alloc),
         }
     }
 
@@ -132,6 +146,7 @@ impl Names {
             pools: self.pools.len(),
             tokens: self.tokens.len(),
             preps: self.preps.len(),
+            lines: self.lines.len(),
         }
     }
 
@@ -144,5 +159,6 @@ impl Names {
         self.tokens.truncate(counts.tokens);
         self.preps.truncate(counts.preps);
         self.asked.truncate(counts.preps);
+        self.lines.truncate(counts.lines);
     }
 }

@@ -1,13 +1,13 @@
-//! A first look at the logs: which requests tokens stand for, and where completions are used before they are seen.
+//! What first looks at all logs found.
 
-use crate::names::{at, set};
+use crate::glance::Glance;
+use crate::names::set;
 use crate::recording::Recorder;
-use crate::steps::{Log, Says, Step};
 use crate::tables::Tables;
 use indexmap::IndexMap;
 use std::alloc::{AllocError, Global};
 
-/// What a first look at the logs finds.
+/// What first looks at the logs found.
 #[derive(Drop)]
 pub struct Survey {
     /// Of each token and what was asked for with it: a place of its name.
@@ -20,34 +20,7 @@ pub struct Survey {
     pub files: Vec<u32>,
 }
 
-/// What a thread is about.
-#[derive(Clone, Copy)]
-struct Eye {
-    /// What its entry asks for.
-    prepared: Option<u32>,
-    /// The token of the completion that it found.
-    peeked: Option<u32>,
-    /// The buffer of that.
-    buffer: Option<u32>,
-    /// Whether it used what came with it.
-    is_used: bool,
-}
-
-/// Whether a line uses what came with a completion of this token, whose request had this buffer.
-pub fn uses(says: Says, token: u32, buffer: Option<u32>) -> bool {
-    match says {
-        Says::Name(other) => other == token,
-        Says::Reads(other) => Some(other) == buffer,
-        Says::Writes(other) => Some(other) == buffer,
-        Says::PutOf {
-            pool: _,
-            buffer: other,
-        } => Some(other) == buffer,
-        _ => false,
-    }
-}
-
-/// Looks at all logs.
+/// What was found in the logs, in this order.
 pub fn look_over(
     alloc: Global,
     recorder: &Recorder,
@@ -62,7 +35,7 @@ pub fn look_over(
     };
     for number in order {
         if let Some(log) = recorder.logs.get(*number as usize) {
-            survey.look_at(alloc, tables, log)?;
+            survey.add(tables, &log.glance)?;
         }
     }
     survey.asked.sort_keys()?;
@@ -70,61 +43,29 @@ pub fn look_over(
 }
 
 impl Survey {
-    /// Looks at a log.
-    fn look_at(&mut self, alloc: Global, tables: &Tables, log: &Log) -> Result<(), AllocError> {
-        let eye = Eye {
-            prepared: None,
-            peeked: None,
-            buffer: None,
-            is_used: false,
-        };
-        let mut eyes = vec![in alloc; eye; tables.threads.names.len()]?;
-        let mut latest = vec![in alloc; None; tables.tokens.names.len()]?;
-        for step in &log.steps {
-            let step = tables.step(*step);
-            let seen = self.look(tables, &mut latest, at(&eyes, step.thread, eye), step)?;
-            set(&mut eyes, step.thread, seen);
+    /// Adds what was found in a log.
+    fn add(&mut self, tables: &Tables, glance: &Glance) -> Result<(), AllocError> {
+        for place in glance.early.iter() {
+            set(&mut self.is_early, tables.places.rank(*place), true);
         }
-        Ok(())
+        for (token, place) in glance.seen.iter() {
+            let place = tables.places.rank(*place);
+            set(&mut self.seen, tables.tokens.rank(*token), Some(place));
+        }
+        for file in glance.files.iter() {
+            self.files.push(*file)?;
+        }
+        self.add_asked(tables, glance)
     }
 
-    /// Looks at a step of a thread. Answers what the thread is about then.
-    fn look(
-        &mut self,
-        tables: &Tables,
-        latest: &mut [Option<u32>],
-        mut eye: Eye,
-        step: Step,
-    ) -> Result<Eye, AllocError> {
-        if let Some(token) = eye.peeked {
-            eye.is_used = eye.is_used || uses(step.says, token, eye.buffer);
+    /// Adds what was asked for in a log.
+    fn add_asked(&mut self, tables: &Tables, glance: &Glance) -> Result<(), AllocError> {
+        for ((token, asked), place) in glance.asked.iter() {
+            let token = tables.tokens.rank(*token);
+            let place = tables.places.rank(*place);
+            self.ask(token, tables.asked_rank(*asked), place)?;
         }
-        match step.says {
-            Says::Prepare(asked) => eye.prepared = Some(asked),
-            Says::Name(token) => {
-                if let Some(asked) = eye.prepared {
-                    set(latest, token, Some(asked));
-                    self.ask(token, asked, step.place)?;
-                }
-                eye.prepared = None;
-            }
-            Says::Peek { token, res: _ } => {
-                eye.peeked = Some(token);
-                eye.buffer = buffer_of(tables, at(latest, token, None));
-                eye.is_used = false;
-            }
-            Says::Seen(token) => {
-                if eye.is_used {
-                    set(&mut self.is_early, step.place, true);
-                }
-                set(&mut self.seen, token, Some(step.place));
-                eye.peeked = None;
-                eye.is_used = false;
-            }
-            Says::File(file) => self.files.push(file)?,
-            _ => {}
-        }
-        Ok(eye)
+        Ok(())
     }
 
     /// Something is asked for with a token.

@@ -153,7 +153,7 @@ fn asked_in(
 
 impl Ranked {
     /// The place of a number. One that has none is past all places.
-    fn rank(&self, number: u32) -> u32 {
+    pub fn rank(&self, number: u32) -> u32 {
         at(&self.ranks, number, u32::MAX)
     }
 
@@ -189,10 +189,15 @@ pub fn tables_of(alloc: Global, recorder: &Recorder) -> Result<Tables, AllocErro
 }
 
 impl Tables {
+    /// The place of what a prep asks for.
+    pub fn asked_rank(&self, number: u32) -> u32 {
+        at(&self.asked_ranks, number, u32::MAX)
+    }
+
     /// What a step says, with places in these tables in place of numbers.
     fn says(&self, says: Says) -> Says {
         match says {
-            Says::Prepare(number) => Says::Prepare(at(&self.asked_ranks, number, u32::MAX)),
+            Says::Prepare(number) => Says::Prepare(self.asked_rank(number)),
             Says::Name(token) => Says::Name(self.tokens.rank(token)),
             Says::Peek { token, res } => Says::Peek {
                 token: self.tokens.rank(token),
@@ -250,7 +255,7 @@ impl Tables {
 pub fn log_order(alloc: Global, recorder: &Recorder) -> Result<Vec<u32>, AllocError> {
     let mut keys = Vec::new(alloc);
     for (number, log) in recorder.logs.iter().enumerate() {
-        keys.push((log.steps.len(), log.sum, short(number)))?;
+        keys.push((log.steps, log.sum, short(number)))?;
     }
     keys.sort()?;
     let mut order = Vec::new(alloc);

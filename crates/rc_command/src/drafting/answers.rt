@@ -10,9 +10,9 @@ ghost use Rattle.rc_report.specs.Streams.{CanWrite};
 use crate::departures::answer::Answer;
 use crate::departures::logs::Logs;
 use crate::departures::telling::tell_answer;
-use crate::drafting::making::{made_of, notes_of};
+use crate::drafting::making::recorded_and_made;
 use crate::drafting::outcome::RecordedLog;
-use crate::drafting::recording::{is_any_read, record_logs};
+use crate::drafting::recording::is_any_read;
 use crate::drafting::telling::{
     accepted_text, draft_object, notes_object, notes_text, refused_text,
 };
@@ -21,7 +21,6 @@ use rc_console::command::Drafting;
 use rc_console::fault::CommandFault;
 use rc_draft::draft::Drafted;
 use rc_lang::program::Program;
-use rc_replay::recording::Recorder;
 use rc_report::check_engine::judged;
 use rc_report::streams::Sink;
 use rc_report::verdict::Verdict;
@@ -50,18 +49,17 @@ pub fn draft_logs<T: Logs, S: Sink, E: Sink>(
 fn answer_to<T: Logs>(texts: &T, alloc: Global, asked: &Drafting<'_>) -> Result<Answer, AllocError>
     ensures { IfOk result (HasSaid (SaysDraft (T.opens texts.now) asked.now)) }
 {
-    let mut recorder = Recorder::new(alloc);
-    let logs = record_logs(texts, alloc, &mut recorder, &asked.logs)?;
-    answer_recorded(texts, alloc, asked, &recorder, &logs)
+    let (logs, drafted) = recorded_and_made(texts, alloc, asked)?;
+    answer_recorded(texts, alloc, asked, &logs, &drafted)
 }
 
-/// The answer to the logs that were recorded so.
+/// The answer to logs whose recording ended so, with what is drafted from them.
 fn answer_recorded<T: Logs>(
     texts: &T,
     alloc: Global,
     asked: &Drafting<'_>,
-    recorder: &Recorder,
     logs: &[RecordedLog<'_>],
+    drafted: &Drafted,
 ) -> Result<Answer, AllocError>
     requires { AreRecorded (texts_of asked.now.logs.items) logs.now }
     ensures { IfOk result (HasSaid (SaysDraft (T.opens texts.now) asked.now)) }
@@ -70,11 +68,9 @@ fn answer_recorded<T: Logs>(
         return notes_answer(alloc, logs, &[], asked.json);
     }
     if asked.notes {
-        let notes = notes_of(alloc, recorder)?;
-        return notes_answer(alloc, logs, &notes, asked.json);
+        return notes_answer(alloc, logs, &drafted.notes, asked.json);
     }
-    let drafted = made_of(alloc, recorder, asked.loops)?;
-    draft_answer(texts, alloc, logs, &drafted, asked.json)
+    draft_answer(texts, alloc, logs, drafted, asked.json)
 }
 
 /// The answer with the notes alone.

@@ -6,24 +6,27 @@ ghost use Rattle.rc_command.specs.declared.drafting.outcome.RecordedLog.{Recorde
 
 use crate::departures::ending::Ending;
 use crate::departures::logs::Logs;
+use crate::drafting::again::{Lost, loss_at};
 use crate::drafting::outcome::{Outcome, RecordedLog};
 use rc_console::files::{Unread, words_of};
 use rc_log::reader::LogFault;
 use rc_replay::recording::{Recorded, Recorder, record_log};
 use std::alloc::{AllocError, Global};
 
-/// Records each log, and answers how that ended. After one that can't be read the others are still recorded.
+/// Records each log but for those that are lost, and answers how that ended. After one that can't be read the others are
+/// still recorded.
 pub fn record_logs<'a, T: Logs>(
     texts: &T,
     alloc: Global,
     recorder: &mut Recorder,
     names: &[&'a str],
+    lost: &[Lost],
 ) -> Result<Vec<RecordedLog<'a>>, AllocError>
     ensures { IfOk result (λ logs. AreRecorded (texts_of names.now) logs.items) }
 {
     let mut logs = Vec::new(alloc);
     for name in names {
-        push_recorded(&mut logs, texts, alloc, recorder, name)?;
+        push_recorded(&mut logs, texts, alloc, recorder, name, lost)?;
     }
     Ok(logs)
 }
@@ -35,12 +38,23 @@ fn push_recorded<'a, T: Logs>(
     alloc: Global,
     recorder: &mut Recorder,
     name: &'a str,
+    lost: &[Lost],
 ) -> Result<(), AllocError>
     ensures { IfOk result (λ _. MoreRecorded name.now logs.old.items logs.new.items) }
 {
-    let outcome = record_one(texts, alloc, recorder, name)?;
+    let outcome = match loss_at(lost, logs.len()) {
+        Some(why) => lost_outcome(alloc, why)?,
+        None => record_one(texts, alloc, recorder, name)?,
+    };
     logs.push(RecordedLog { name, outcome })?;
     Ok(())
+}
+
+/// A log that was recorded, and can't be read again.
+fn lost_outcome(alloc: Global, why: &str) -> Result<Outcome, AllocError>
+    ensures { IfOk result IsUntried }
+{
+    Ok(Outcome::Unread(String::from_str(alloc, why)?))
 }
 
 /// Records a log, and answers how that ended.

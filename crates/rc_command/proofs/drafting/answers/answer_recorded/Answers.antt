@@ -7,8 +7,8 @@ returns-then-not-is_any_read g c =
 
 pub returns-then-asked : goal.returns-then-asked
 returns-then-asked g c =
-    of_notes (g.T.Logs.opens c.args.texts.now) c.args.asked.now c.args.logs.now c.notes_answer-then-asked.result c.in_ok-notes.notes.items c.if-asked.true c.requires (rw c.deref.ensures.value at c.notes_answer-then-asked.ensures)
+    of_notes (g.T.Logs.opens c.args.texts.now) c.args.asked.now c.args.logs.now c.notes_answer-then-asked.result c.args.drafted.now.notes.items c.if-asked.true c.requires (rw c.deref.ensures.value at c.notes_answer-then-asked.ensures)
 
 pub returns : goal.returns
 returns g c =
-    of_draft (g.T.Logs.opens c.args.texts.now) c.args.asked.now c.args.logs.now c.draft_answer.result c.in_ok-drafted.drafted.text.items c.in_ok-drafted.drafted.notes.items c.if-asked.false c.requires c.draft_answer.ensures
+    of_draft (g.T.Logs.opens c.args.texts.now) c.args.asked.now c.args.logs.now c.draft_answer.result c.args.drafted.now.text.items c.args.drafted.now.notes.items c.if-asked.false c.requires c.draft_answer.ensures
