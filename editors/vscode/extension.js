@@ -252,23 +252,32 @@ function follow() {
     ];
 }
 
-// ---- the run that shows the harm
+// ---- the run that shows the harm, or after which nothing can go on
 
-async function find() {
+async function search(name, none) {
     const editor = vscode.window.activeTextEditor;
     if (!editor || editor.document.languageId !== LANGUAGE) {
         return;
     }
-    const command = { command: 'ringcheck.find', arguments: [editor.document.uri.toString()] };
+    const command = { command: name, arguments: [editor.document.uri.toString()] };
     const told = await client.request('workspace/executeCommand', command);
     output.clear();
     output.appendLine(told.verdict);
-    output.appendLine(told.moves ? `--moves ${told.moves}\n${told.trace}` : 'no run into a fault was found');
+    output.appendLine(typeof told.moves === 'string' ? `--moves ${told.moves}\n${told.trace}` : none);
+    (told.threads || []).forEach((thread) => output.appendLine(`${thread.name} ${thread.says}`));
     output.show(true);
     if (told.picture) {
         const panel = vscode.window.createWebviewPanel('ringcheck', 'Ringcheck', vscode.ViewColumn.Beside, {});
         panel.webview.html = `<body style="background: white">${told.picture}</body>`;
     }
+}
+
+function find() {
+    return search('ringcheck.find', 'no run into a fault was found');
+}
+
+function findStuck() {
+    return search('ringcheck.findStuck', 'not stuck in 2000 walks');
 }
 
 // ---- drafts. The server opens no files, so the program itself is run.
@@ -332,7 +341,7 @@ async function activate(context) {
         capabilities: CAPABILITIES,
     });
     client.notify('initialized', {});
-    const commands = Object.entries({ 'ringcheck.find': find, 'ringcheck.draft': draft });
+    const commands = Object.entries({ 'ringcheck.find': find, 'ringcheck.findStuck': findStuck, 'ringcheck.draft': draft });
     const made = commands.map(([name, call]) => vscode.commands.registerCommand(name, call));
     context.subscriptions.push(diagnostics, output, ...made, ...providers(), ...follow());
 }

@@ -1,7 +1,7 @@
 -- What commands say and leave.
-use Rattle.std.proofs.Common.{◌≡◌, ◌≤◌, ◌++◌, ◌∙◌, inl, inr, ℕ, List, [], false, Option, Some, None, Result, Ok, Err, refl, sym, ap, subst, arith}
+use Rattle.std.proofs.Common.{◌≡◌, ◌≤◌, ◌++◌, ◌∙◌, inl, inr, ℕ, List, [], Bool, true, false, Option, Some, None, Result, Ok, Err, refl, sym, ap, subst, arith}
 use Rattle.std.specs.Global.{Vec}
-use Rattle.std.specs.Prelude.{IfOk, IsErrAnd}
+use Rattle.std.specs.Prelude.{IfOk, IsErrAnd, if◌then◌else◌}
 use Rattle.rc_report.specs.declared.engine_fault.EngineFault.{EngineFault}
 use Rattle.rc_report.specs.declared.engine_fault.EngineFault.TheVariants.{Read, Write, OutOfMemory}
 use Rattle.rc_report.specs.declared.step_engine.StepEnd.{StepEnd}
@@ -21,6 +21,7 @@ use Rattle.rc_report.specs.Streams.{Given, Taken}
 use Rattle.rc_report.proofs.Answered.{of_any, of_text}
 use Rattle.rc_report.proofs.Pieces.{append-[]}
 use Rattle.rc_console.specs.declared.command.Command.{Command}
+use Rattle.rc_console.specs.declared.command.Searching.{Searching}
 use Rattle.rc_console.specs.declared.command.Command.TheVariants.{Check, Explain, Keeps, Step, Find, Run, Emit, Follow, Draft, Format, Serve, Show}
 use Rattle.rc_console.specs.declared.fault.CommandFault.{CommandFault}
 use Rattle.rc_console.specs.declared.fault.CommandFault.TheVariants.{Words, Engine, NoEnd, OtherProgram}
@@ -37,8 +38,11 @@ use Rattle.rc_command.proofs.Enough.{enough_answers}
 use Rattle.rc_explain.specs.Explains.{Tells}
 use Rattle.rc_runs.specs.Finds.{IsFound}
 use Rattle.rc_runs.specs.declared.find.Found.{Found}
+use Rattle.rc_runs.specs.declared.stuck.StuckFound.{StuckFound}
+use Rattle.rc_runs.specs.FindsStuck.{has_run}
+use Rattle.rc_runs.specs.StuckRuns.{IsStuckFound}
 use Rattle.rc_runs.specs.Stepping.{OfShown}
-use Rattle.rc_command.specs.Answers.{AsksFile, DoesWith, IsShownAs, NoAnswer, ReadsAsAsked, Says, SaysAdmitted, SaysKept, SaysLaidOut, SaysRun, SaysScript, TellsWhy, WithNotes, may_report}
+use Rattle.rc_command.specs.Answers.{AsksFile, DoesWith, IsShownAs, IsStuckShownAs, NoAnswer, ReadsAsAsked, Says, SaysAdmitted, SaysKept, SaysLaidOut, SaysRun, SaysScript, SaysSearchOf, TellsWhy, WithNotes, may_report, status_of_stuck}
 use Rattle.rc_command.specs.Checking.{TellsFile}
 use Rattle.rc_command.specs.Commands.{Gives}
 use Rattle.rc_command.specs.declared.checking.Telling.{Telling}
@@ -64,6 +68,14 @@ step_within (Unreadable fault) s e = omega (arith, e)
 step_within (Schedule i) s e = omega (arith, e)
 step_within (Trace end) s e = end_within end s e
 
+stuck_within : (yes : Bool) (v : Verdict) (s : ℕ) → s ≡ (if yes then 1 else status_of_verdict v) → s ≤ 3
+stuck_within true v s e = omega (arith, e)
+stuck_within false v s e = verdict_within v s e
+
+search_within : (stuck : Bool) (file : Option (List ℕ)) (bytes : List ℕ) (asked : Searching) (s : ℕ) (text : List ℕ) → SaysSearchOf stuck file bytes asked s text → s ≤ 3
+search_within true file bytes asked s text h = stuck_within (has_run h.0) h.0.verdict s h.3
+search_within false file bytes asked s text h = verdict_within h.0 s h.2
+
 pub within : (file : Option (List ℕ)) (command : Command) (bytes : List ℕ) (s : ℕ) (text : List ℕ) → Says file command bytes s text → s ≤ 3
 within file (Check json) bytes s text h = verdict_within h.0 s h.2
 within file (Explain form) bytes s text h = verdict_within h.0 s h.2
@@ -72,7 +84,7 @@ within file Keeps bytes s text h = elim h [
   | inr (unread, given, says) ↦ verdict_within (NoProgram unread.line unread.cause) s says.1
 ]
 within file (Step stepping) bytes s text h = of_some stepping.show (λ traced. SaysScript file traced (answer_of bytes) stepping.script s text) (s ≤ 3) (λ traced says. step_within says.0 s says.3) h
-within file (Find asked) bytes s text h = verdict_within h.0 s h.2
+within file (Find asked) bytes s text h = search_within asked.stuck file bytes asked s text h
 within file (Run seed limit summary) bytes s text h = elim h [
   | inl (program, given, run) ↦ end_within run.1 s run.4
   | inr (verdict, given, says) ↦ verdict_within verdict s says.1
@@ -116,14 +128,19 @@ admitted_of_all file kept bytes of s text same h = elim h [
   | inr (verdict, given, says) ↦ inr (verdict, subst (λ answer. GivesVerdict answer (Err verdict)) same given, says)
 ]
 
+search_of_all : (stuck : Bool) (file : Option (List ℕ)) (asked : Searching) (kept bytes : List ℕ) (s : ℕ) (text : List ℕ) → answer_of kept ≡ answer_of bytes → SaysSearchOf stuck file kept asked s text → SaysSearchOf stuck file bytes asked s text
+search_of_all true file asked kept bytes s text same h =
+    subst (λ answer. (f : StuckFound) × IsStuckFound answer asked.walks f × IsStuckShownAs file asked.form f text × (s ≡ status_of_stuck f)) same h
+search_of_all false file asked kept bytes s text same h =
+    subst (λ answer. SaysVerdict (λ verdict told. (f : Found) × IsFound answer asked.walks f × (verdict ≡ f.verdict) × IsShownAs file asked.form f told) s text) same h
+
 -- What is said of enough of it is said of all of it.
 pub says_of_all : (file : Option (List ℕ)) (command : Command) (kept bytes : List ℕ) (s : ℕ) (text : List ℕ) → Suffices (extent command) kept bytes → Says file command kept s text → Says file command bytes s text
 says_of_all file (Check json) kept bytes s text enough h = subst (λ answer. SaysVerdict (λ verdict told. IsVerdict answer verdict × (told ≡ printed None json verdict)) s text) (enough_answers kept bytes enough) h
 says_of_all file (Explain form) kept bytes s text enough h = subst (λ answer. SaysVerdict (λ verdict told. IsVerdict answer verdict × Tells None form verdict told) s text) (enough_answers kept bytes enough) h
 says_of_all file Keeps kept bytes s text enough h = subst (λ given. SaysKept file given s text) (sym enough) h
 says_of_all file (Step stepping) kept bytes s text enough h = subst (λ answer. OfShown stepping.show (λ traced. SaysScript file traced answer stepping.script s text)) (enough_answers kept bytes enough) h
-says_of_all file (Find asked) kept bytes s text enough h =
-    subst (λ answer. SaysVerdict (λ verdict told. (f : Found) × IsFound answer asked.walks f × (verdict ≡ f.verdict) × IsShownAs file asked.form f told) s text) (enough_answers kept bytes enough) h
+says_of_all file (Find asked) kept bytes s text enough h = search_of_all asked.stuck file asked kept bytes s text (enough_answers kept bytes enough) h
 says_of_all file (Run seed limit summary) kept bytes s text enough h =
     admitted_of_all file kept bytes (λ (program : Program). SaysRun program limit summary) s text (enough_answers kept bytes enough) h
 says_of_all file Emit kept bytes s text enough h = admitted_of_all file kept bytes (λ (program : Program) (status : ℕ) (told : List ℕ). status ≡ 0) s text (enough_answers kept bytes enough) h

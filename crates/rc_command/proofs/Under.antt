@@ -1,7 +1,7 @@
 -- A log under way: its first two lines, one line more, and its end.
 use Rattle.std.specs.Str.{bytes_eq}
 use Rattle.std.specs.Prelude.{codes}
-use Rattle.std.proofs.Common.{◌≡◌, ℕ, ◌<◌, Bool, true, false, true≢false, List, [], ◌∷◌, ◌++◌, length, Option, Some, None, Result, Ok, Err, refl, sym, ap, subst, ◌∙◌, append_assoc, append-nil, arith, inl, inr}
+use Rattle.std.proofs.Common.{◌≡◌, ◌↔◌, ℕ, ◌<◌, Bool, true, false, true≢false, List, [], ◌∷◌, ◌++◌, length, Option, Some, None, Result, Ok, Err, refl, sym, ap, subst, ◌∙◌, append_assoc, append-nil, arith, inl, inr}
 use Rattle.std.specs.Prelude.{IfErr, IsErrAnd}
 use Rattle.rc_lang.specs.Program.{Program}
 use Rattle.rc_log.specs.declared.call.Said.{Said}
@@ -18,8 +18,10 @@ use Rattle.rc_follow.specs.declared.follower.Answer.TheVariants as answer
 use Rattle.rc_follow.specs.Followed.{IsFollowed}
 use Rattle.rc_follow.specs.Follower.{Follower, Follows}
 use Rattle.rc_command.specs.declared.departures.ending.Ending.{Ending}
-use Rattle.rc_command.specs.declared.departures.ending.Ending.TheVariants.{Followed, Full}
-use Rattle.rc_command.specs.Logs.{AreFollowed, Declares, Ends, FollowsLine, FollowsSaid, HasFollowed, HasRoom, Headed, IsBegun, IsDeclared, IsFollowedLog, IsLog, IsOther, IsRoomy, IsUnder, KeepsReached, Ringed, Say, Stops, Under}
+use Rattle.rc_command.specs.declared.departures.ending.Ending.TheVariants.{Followed, Stuck, Full, Departs, Unreadable, TooMany}
+use Rattle.rc_runs.specs.declared.stuck_text.waits.Wait.{Wait}
+use Rattle.std.specs.Global.{Vec}
+use Rattle.rc_command.specs.Logs.{AreFollowed, IsFollowedSaid, IsRightly, IsSaidOf, Declares, Ends, FollowsLine, FollowsSaid, HasFollowed, HasRoom, Headed, IsBegun, IsDeclared, IsFollowedLog, IsLog, IsOther, IsRoomy, IsUnder, KeepsReached, Ringed, Say, Stops, Under}
 
 -- ---- the first two lines
 
@@ -52,11 +54,13 @@ begun old bytes left f h s e r = (e, r, begun_with old.program bytes left f h s 
 other_ends : (p : Program) (bytes : Option (List ℕ)) (e : Ending) → IsOther e → Ends p bytes e
 other_ends p None e h = tt
 other_ends p (Some b) (Followed calls) h = absurd h
+other_ends p (Some b) (Stuck calls waits) h = absurd h
 other_ends p (Some b) (Full calls) h = absurd h
 other_ends p (Some b) _ h = tt
 
 other_made : (p : Program) (b : List ℕ) (e : Ending) (ss : List Said) → IsOther e → IsBegun p (log_lines b) ss → AreFollowed p (Some b) e ss
 other_made p b (Followed calls) ss h k = absurd h
+other_made p b (Stuck calls waits) ss h k = absurd h
 other_made p b (Full calls) ss h k = absurd h
 other_made p b _ ss h k = k
 
@@ -76,6 +80,37 @@ pub under_stop : (old : Follower) (bytes left : Option (List ℕ)) (f : Follower
 under_stop old bytes left f e h u =
     let made = stops_with old.program bytes left f e h u.2 in
     (other_ends old.program bytes e h, u.0, u.1, made.0, made.1, made.2)
+
+-- the same where it is said that the worlds are stuck, or isn't
+said_ends : (p : Program) (bytes : Option (List ℕ)) (calls : ℕ) (waits : Vec Wait) → Ends p bytes (Followed calls) ↔ Ends p bytes (Stuck calls waits)
+said_ends p None calls waits = (λ h. h, λ h. h)
+said_ends p (Some b) calls waits = (λ h. h, λ h. h)
+
+said_made : (p : Program) (bytes : Option (List ℕ)) (calls : ℕ) (waits : Vec Wait) (ss : List Said) → AreFollowed p bytes (Followed calls) ss ↔ AreFollowed p bytes (Stuck calls waits) ss
+said_made p None calls waits ss = (λ h. h, λ h. h)
+said_made p (Some b) calls waits ss = (λ h. h, λ h. h)
+
+stops_stuck : (old : Follower) (bytes : Option (List ℕ)) (f : Follower) (calls : ℕ) (waits : Vec Wait) → Stops old bytes f (Followed calls) → Stops old bytes f (Stuck calls waits)
+stops_stuck old bytes f calls waits s = ((said_ends old.program bytes calls waits).0 s.0, s.1, s.2, s.3, s.4, (said_made old.program bytes calls waits s.3).0 s.5)
+
+stops_followed : (old : Follower) (bytes : Option (List ℕ)) (f : Follower) (calls : ℕ) (waits : Vec Wait) → Stops old bytes f (Stuck calls waits) → Stops old bytes f (Followed calls)
+stops_followed old bytes f calls waits s = ((said_ends old.program bytes calls waits).1 s.0, s.1, s.2, s.3, s.4, (said_made old.program bytes calls waits s.3).1 s.5)
+
+followed_rightly : (old : Follower) (bytes : Option (List ℕ)) (f : Follower) (calls : ℕ) (new : Ending) → Stops old bytes f (Followed calls) → IsFollowedSaid f calls new → Stops old bytes f new × IsRightly f new
+followed_rightly old bytes f calls (Followed more) s h = (subst (λ (n : ℕ). Stops old bytes f (Followed n)) h s, tt)
+followed_rightly old bytes f calls (Stuck more waits) s h = (subst (λ (n : ℕ). Stops old bytes f (Stuck n waits)) h.0 (stops_stuck old bytes f calls waits s), h.1)
+followed_rightly old bytes f calls (Full more) s h = absurd h
+followed_rightly old bytes f calls (Departs number place says why) s h = absurd h
+followed_rightly old bytes f calls (Unreadable number why) s h = absurd h
+followed_rightly old bytes f calls (TooMany number) s h = absurd h
+
+pub said_rightly : (old : Follower) (bytes : Option (List ℕ)) (f : Follower) (e new : Ending) → Stops old bytes f e → IsSaidOf f e new → Stops old bytes f new × IsRightly f new
+said_rightly old bytes f (Followed calls) new s h = followed_rightly old bytes f calls new s h
+said_rightly old bytes f (Stuck calls waits) new s h = followed_rightly old bytes f calls new (stops_followed old bytes f calls waits s) h
+said_rightly old bytes f (Full calls) new s h = subst (λ (e : Ending). Stops old bytes f e × IsRightly f e) (sym h) (s, tt)
+said_rightly old bytes f (Departs number place says why) new s h = subst (λ (e : Ending). Stops old bytes f e × IsRightly f e) (sym h) (s, tt)
+said_rightly old bytes f (Unreadable number why) new s h = subst (λ (e : Ending). Stops old bytes f e × IsRightly f e) (sym h) (s, tt)
+said_rightly old bytes f (TooMany number) new s h = subst (λ (e : Ending). Stops old bytes f e × IsRightly f e) (sym h) (s, tt)
 
 -- ---- one line more
 

@@ -1,6 +1,6 @@
 -- What the program answers: of each command the exit status, and what it writes.
 use Rattle.std.specs.Global.{Vec}
-use Rattle.std.specs.Prelude.{ℕ, ℤ, ◌≡◌, ◌+◌, ◌≤ℤ◌, pos, negsuc, ◌⊎◌, Bool, true, false, List, [], ◌++◌, Option, Some, None, Result, Ok, Err, string_bytes}
+use Rattle.std.specs.Prelude.{ℕ, ℤ, ◌≡◌, ◌+◌, ◌≤ℤ◌, if◌then◌else◌, pos, negsuc, ◌⊎◌, Bool, true, false, List, [], ◌++◌, Option, Some, None, Result, Ok, Err, string_bytes}
 use Rattle.rc_lang.specs.Program.{Program}
 use Rattle.rc_read.specs.Answer.{answer_of}
 use Rattle.rc_world.specs.declared.event.Event.{Event}
@@ -37,7 +37,10 @@ use Rattle.rc_rewrite.specs.LaidOut.{IsLaidOut}
 use Rattle.rc_rewrite.specs.declared.keeps.UnreadLine.{UnreadLine}
 use Rattle.rc_rewrite.specs.Keeps.{GivesKept}
 use Rattle.rc_runs.specs.declared.find.Found.{Found}
+use Rattle.rc_runs.specs.declared.stuck.StuckFound.{StuckFound}
 use Rattle.rc_runs.specs.Finds.{IsFound, found_json, found_text}
+use Rattle.rc_runs.specs.FindsStuck.{IsStuckJson, IsStuckText, has_run}
+use Rattle.rc_runs.specs.StuckRuns.{IsStuckFound}
 use Rattle.rc_runs.specs.Scripts.{EndsScript, script_text}
 use Rattle.rc_runs.specs.Stepping.{OfShown}
 
@@ -62,6 +65,27 @@ IsShownAs file form.Picture f text = Unit {0}
 abbrev pub Finds : Option (List ℕ) → List ℕ → Searching → Verdict → List ℕ → Type 0
 Finds file bytes asked verdict text =
     (f : Found) × IsFound (answer_of bytes) asked.walks f × (verdict ≡ f.verdict) × IsShownAs file asked.form f text
+
+-- The same of runs into a stuck world.
+abbrev pub IsStuckShownAs : Option (List ℕ) → FoundAs → StuckFound → List ℕ → Type 0
+IsStuckShownAs file form.Words f text = IsStuckText file f text
+IsStuckShownAs file form.Json f text = IsStuckJson file f text
+IsStuckShownAs file form.Picture f text = Unit {0}
+
+-- The status is 1 where one was found, else that of the verdict.
+abbrev pub status_of_stuck : StuckFound → ℕ
+status_of_stuck f = if has_run f then 1 else status_of_verdict f.verdict
+
+abbrev pub FindsStuck : Option (List ℕ) → List ℕ → Searching → ℕ → List ℕ → Type 0
+FindsStuck file bytes asked status text =
+    (f : StuckFound) × IsStuckFound (answer_of bytes) asked.walks f × IsStuckShownAs file asked.form f text × (status ≡ status_of_stuck f)
+
+abbrev pub SaysSearchOf : Bool → Option (List ℕ) → List ℕ → Searching → ℕ → List ℕ → Type 0
+SaysSearchOf true file bytes asked status text = FindsStuck file bytes asked status text
+SaysSearchOf false file bytes asked status text = SaysVerdict (Finds file bytes asked) status text
+
+abbrev pub SaysSearch : Option (List ℕ) → List ℕ → Searching → ℕ → List ℕ → Type 0
+SaysSearch file bytes asked status text = SaysSearchOf asked.stuck file bytes asked status text
 
 -- The disk gives any result that a request may have.
 abbrev pub DiskGives : ℕ → ℤ → Type 0
@@ -108,15 +132,15 @@ abbrev pub SaysLaidOut : List ℕ → ℕ → List ℕ → Type 0
 SaysLaidOut bytes status text = IsLaidOut bytes text × (status ≡ 0)
 
 -- The status of `check` is that of the verdict on the bytes, which is written. `--explain` writes what explains it too, and
--- `find` a run of a refused program into a fault, where it was found. What the C of a program is no contract says. `follow`
--- reads its text and the logs itself, and `draft` and a server read no text, so these have nothing to say of one text.
--- Files that are checked are answered apart, with their names.
+-- `find` a run of a refused program into a fault, or of any into a stuck world, where it was found. What the C of a program
+-- is no contract says. `follow` reads its text and the logs itself, and `draft` and a server read no text, so these have
+-- nothing to say of one text. Files that are checked are answered apart, with their names.
 abbrev pub Says : Option (List ℕ) → Command → List ℕ → ℕ → List ℕ → Type 0
 Says file (Check json) bytes status text = SaysVerdict (TellsVerdict None bytes json) status text
 Says file (Explain form) bytes status text = SaysVerdict (Explains bytes None form) status text
 Says file Keeps bytes status text = SaysKept file bytes status text
 Says file (Step stepping) bytes status text = SaysSteps file bytes stepping status text
-Says file (Find asked) bytes status text = SaysVerdict (Finds file bytes asked) status text
+Says file (Find asked) bytes status text = SaysSearch file bytes asked status text
 Says file (Run seed limit summary) bytes status text =
     SaysAdmitted file bytes (λ program. SaysRun program limit summary) status text
 Says file Emit bytes status text = SaysAdmitted file bytes (λ program status text. status ≡ 0) status text

@@ -23,7 +23,7 @@ use Rattle.rc_console.specs.declared.command.Form.TheVariants.{Words}
 use Rattle.rc_console.specs.declared.files.Unread.{Unread}
 use Rattle.rc_console.specs.Files.{Said, greatest, line_told}
 use Rattle.rc_command.specs.declared.departures.ending.Ending.{Ending}
-use Rattle.rc_command.specs.declared.departures.ending.Ending.TheVariants.{Followed, Departs}
+use Rattle.rc_command.specs.declared.departures.ending.Ending.TheVariants.{Followed, Stuck, Departs}
 use Rattle.rc_command.specs.declared.drafting.outcome.LogEnd.{LogEnd}
 use Rattle.rc_command.specs.declared.drafting.outcome.Outcome.{Outcome}
 use Rattle.rc_command.specs.declared.drafting.outcome.Outcome.TheVariants as outcome
@@ -44,6 +44,7 @@ is_read o = false
 
 abbrev pub is_followed : Outcome → Bool
 is_followed (outcome.Ended (Followed calls)) = true
+is_followed (outcome.Ended (Stuck calls waits)) = true
 is_followed o = false
 
 -- It is held to no program: it isn't said that it is followed.
@@ -111,6 +112,7 @@ followed ends = length (filter (λ (end : LogEnd). is_followed (outcome_of end))
 -- Of a log that was read, or followed, nothing is told.
 abbrev pub ended_line : List ℕ → Ending → List ℕ
 ended_line log (Followed calls) = []
+ended_line log (Stuck calls waits) = []
 ended_line log (Departs number place says why) =
     shown log ++ joined (codes ":" ∷ decimal number ∷ codes " departs: " ∷ place.items ∷ codes ": " ∷ says.items ∷ codes "; " ∷ why.items ∷ codes "\n" ∷ [])
 ended_line log ending = ending_text log ending

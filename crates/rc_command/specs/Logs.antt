@@ -1,5 +1,5 @@
 -- Logs that are followed in a program.
-use Rattle.std.specs.Prelude.{ℕ, ◌≡◌, ◌≤◌, ◌⊎◌, ◌++◌, Bool, true, false, List, [], ◌∷◌, Option, Some, None, Result, Ok, Err}
+use Rattle.std.specs.Prelude.{ℕ, ◌≡◌, ◌≤◌, ◌⊎◌, ◌++◌, All, slice_get, Bool, true, false, List, [], ◌∷◌, Option, Some, None, Result, Ok, Err}
 use Rattle.rc_lang.specs.Program.{Program}
 use Rattle.rc_log.specs.declared.call.Said.{Said}
 use Rattle.rc_log.specs.declared.reader.LogFault.{LogFault}
@@ -10,8 +10,11 @@ use Rattle.rc_log.specs.Said.{said}
 use Rattle.rc_log.specs.Things.{Thing, declared, lack_of}
 use Rattle.rc_follow.specs.Followed.{IsFollowed}
 use Rattle.rc_follow.specs.Follower.{Follower, Follows, with_ways}
+use Rattle.rc_follow.specs.Ways.{Way}
+use Rattle.rc_runs.specs.Stuck.{IsStuck}
 use Rattle.rc_command.specs.declared.departures.ending.Ending.{Ending}
-use Rattle.rc_command.specs.declared.departures.ending.Ending.TheVariants.{Followed, Full}
+use Rattle.rc_command.specs.Endings.{calls_followed}
+use Rattle.rc_command.specs.declared.departures.ending.Ending.TheVariants.{Followed, Stuck, Full}
 
 -- The line declares something that the program has.
 abbrev pub Declares : Program → List ℕ → Type 0
@@ -39,16 +42,18 @@ IsLog p (head ∷ rings ∷ lines) ss = (is_head head ≡ true) × HasRoom p (ri
 abbrev pub IsFollowedLog : Program → List ℕ → Type 0
 IsFollowedLog p bytes = (ss : List Said) × IsLog p (log_lines bytes) ss × IsFollowed p ss
 
--- If the answer is `Followed` or `Full`, the log is followed, and it wasn't full or was. Nothing is said where its bytes
--- aren't known.
+-- If the answer is `Followed`, `Stuck` or `Full`, the log is followed, and it wasn't full or was. Nothing is said where its
+-- bytes aren't known.
 abbrev pub Ends : Program → Option (List ℕ) → Ending → Type 0
 Ends p (Some bytes) (Followed calls) = IsFollowedLog p bytes × (is_full bytes ≡ false)
+Ends p (Some bytes) (Stuck calls waits) = IsFollowedLog p bytes × (is_full bytes ≡ false)
 Ends p (Some bytes) (Full calls) = IsFollowedLog p bytes × (is_full bytes ≡ true)
 Ends p _ _ = Unit {0}
 
 -- It isn't said that it is followed.
 abbrev pub IsOther : Ending → Type 0
 IsOther (Followed calls) = ⊥
+IsOther (Stuck calls waits) = ⊥
 IsOther (Full calls) = ⊥
 IsOther _ = Unit {0}
 
@@ -62,6 +67,7 @@ IsBegun p lines ss =
 -- These lines were followed: all of a log that is followed, and of another those before the one at which it ends.
 abbrev pub AreFollowed : Program → Option (List ℕ) → Ending → List Said → Type 0
 AreFollowed p (Some bytes) (Followed calls) ss = IsLog p (log_lines bytes) ss
+AreFollowed p (Some bytes) (Stuck calls waits) ss = IsLog p (log_lines bytes) ss
 AreFollowed p (Some bytes) (Full calls) ss = IsLog p (log_lines bytes) ss
 AreFollowed p (Some bytes) _ ss = IsBegun p (log_lines bytes) ss
 AreFollowed p None ending ss = Unit {0}
@@ -72,9 +78,40 @@ Stops old bytes f ending =
     Ends old.program bytes ending × (f.program ≡ old.program) × (f.reached ≡ old.reached)
     × (ss : List Said) × Follows ss f × AreFollowed old.program bytes ending ss
 
+-- The worlds of all ways that are left are stuck.
+abbrev pub AreStuck : Follower → Type 0
+AreStuck f = All (λ (w : Way). IsStuck w.world) f.ways
+
+-- the world of the way at this place
+abbrev pub IsStuckWay : Option Way → Type 0
+IsStuckWay None = ⊥
+IsStuckWay (Some w) = IsStuck w.world
+
+abbrev pub IsStuckAt : Follower → ℕ → Type 0
+IsStuckAt f place = IsStuckWay (slice_get f.ways place)
+
+-- `Stuck` is said only where they are.
+abbrev pub IsRightly : Follower → Ending → Type 0
+IsRightly f (Stuck calls waits) = AreStuck f
+IsRightly f _ = Unit {0}
+
 -- What is reached besides are the calls that were made on the ways that are left where the log ends.
 abbrev pub Reaches : Follower → Option (List ℕ) → Follower → Ending → Type 0
-Reaches old bytes new ending = (f : Follower) × Stops old bytes f ending × (new ≡ with_ways f)
+Reaches old bytes new ending = (f : Follower) × Stops old bytes f ending × IsRightly f ending × (new ≡ with_ways f)
+
+-- So many calls are followed, and the worlds may be stuck there.
+abbrev pub IsFollowedSaid : Follower → ℕ → Ending → Type 0
+IsFollowedSaid f calls (Followed more) = calls ≡ more
+IsFollowedSaid f calls (Stuck more waits) = (calls ≡ more) × AreStuck f
+IsFollowedSaid f calls _ = ⊥
+
+abbrev pub IsSaidBy : Follower → Option ℕ → Ending → Ending → Type 0
+IsSaidBy f None old new = new ≡ old
+IsSaidBy f (Some calls) old new = IsFollowedSaid f calls new
+
+-- It ends as the first says, but that it may be said that the worlds are stuck.
+abbrev pub IsSaidOf : Follower → Ending → Ending → Type 0
+IsSaidOf f old new = IsSaidBy f (calls_followed old) old new
 
 -- Where a read failed nothing more is reached.
 abbrev pub KeepsReached : Follower → Follower → LogFault → Type 0

@@ -8,6 +8,7 @@ pub mod logs;
 pub mod object;
 mod places_text;
 pub mod printed;
+mod stuck;
 pub mod telling;
 mod unmade;
 mod why;

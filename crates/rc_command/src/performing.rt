@@ -1,7 +1,7 @@
 //! What each command does with a text.
 
-ghost use Rattle.std.specs.Prelude.{◌≡◌, IfOk, None, false, option_copied as named};
-ghost use Rattle.rc_command.specs.Answers.{Finds, IsShownAs, Says, SaysSteps, may_report};
+ghost use Rattle.std.specs.Prelude.{◌≡◌, ◌≤◌, IfOk, None, false, option_copied as named};
+ghost use Rattle.rc_command.specs.Answers.{Finds, FindsStuck, IsShownAs, IsStuckShownAs, Says, SaysSearch, SaysSteps, may_report, status_of_stuck};
 ghost use Rattle.rc_explain.specs.Explains.{Explains};
 ghost use Rattle.rc_console.specs.Answers.{Does, SaysVerdict};
 ghost use Rattle.rc_report.specs.Checks.{TellsVerdict};
@@ -17,11 +17,13 @@ use rc_console::output::write_answer;
 use rc_explain::engine::put_explained;
 use rc_report::check_engine::put_checked;
 use rc_report::script::Stepping;
-use rc_report::status::{DEVICE_STATUS, GOOD_STATUS};
+use rc_report::status::{DEVICE_STATUS, FAULT_STATUS, GOOD_STATUS};
 use rc_report::streams::Sink;
 use rc_runs::find::{Found, find};
 use rc_runs::found::{put_found, put_found_json, put_found_picture};
 use rc_runs::stepping::step;
+use rc_runs::stuck::{StuckFound, find_stuck};
+use rc_runs::stuck_text::{has_run, put_stuck_found, put_stuck_json, put_stuck_picture};
 use std::alloc::{AllocError, Global};
 use std::sync::Wait;
 use std::thread::Threads;
@@ -46,7 +48,7 @@ pub fn performed<R: Threads + Wait + Sync, S: Sink>(
         Command::Explain { form } => explained(alloc, text, *form, sink),
         Command::Keeps => keep_text(alloc, file, text, sink),
         Command::Step(stepping) => stepped(alloc, file, text, stepping, sink, notes),
-        Command::Find(asked) => found_in(alloc, file, text, *asked, sink, notes),
+        Command::Find(asked) => searched(alloc, file, text, *asked, sink, notes),
         Command::Run {
             seed,
             limit,
@@ -107,6 +109,25 @@ fn stepped<S: Sink>(
     Ok(end.status())
 }
 
+/// Checks a text, and looks for a run of it: of a refused one into a fault, or of any into a stuck world.
+fn searched<S: Sink>(
+    alloc: Global,
+    file: Option<&str>,
+    text: &[u8],
+    asked: Searching,
+    sink: &mut S,
+    notes: &mut Vec<u8>,
+) -> Result<u8, CommandFault>
+    requires { CanWrite (S.state sink.old) }
+    ensures { Does (SaysSearch (named file.entry) text.now asked) S.state sink.old sink.new result }
+{
+    if asked.stuck {
+        stuck_in(alloc, file, text, asked, sink, notes)
+    } else {
+        found_in(alloc, file, text, asked, sink, notes)
+    }
+}
+
 /// Checks a text, and looks for a run of a refused one into a fault.
 fn found_in<S: Sink>(
     alloc: Global,
@@ -140,6 +161,54 @@ fn shown_as(
         FoundAs::Words => put_found(&mut answer, alloc, file, found)?,
         FoundAs::Json => put_found_json(&mut answer, alloc, file, found)?,
         FoundAs::Picture => put_found_picture(&mut answer, notes, alloc, file, text, found)?,
+    }
+    Ok(answer)
+}
+
+/// Checks a text, and looks for a run of it into a stuck world.
+fn stuck_in<S: Sink>(
+    alloc: Global,
+    file: Option<&str>,
+    text: &[u8],
+    asked: Searching,
+    sink: &mut S,
+    notes: &mut Vec<u8>,
+) -> Result<u8, CommandFault>
+    requires { CanWrite (S.state sink.old) }
+    ensures { Does (FindsStuck (named file.entry) text.now asked) S.state sink.old sink.new result }
+{
+    let found = find_stuck(alloc, text, asked.seed, asked.walks)?;
+    let answer = stuck_as(alloc, file, text, &found, asked.form, notes)?;
+    write_answer(sink, &answer, stuck_status(&found))
+}
+
+/// The status of what was found: 1 where a run was, else that of the verdict.
+fn stuck_status(found: &StuckFound) -> u8
+    ensures status { result ≡ status_of_stuck found.now }
+    ensures bound { result ≤ 3 }
+{
+    if has_run(found) {
+        return FAULT_STATUS;
+    }
+    found.verdict.status()
+}
+
+/// What was found of a text in this form.
+fn stuck_as(
+    alloc: Global,
+    file: Option<&str>,
+    text: &[u8],
+    found: &StuckFound,
+    form: FoundAs,
+    notes: &mut Vec<u8>,
+) -> Result<Vec<u8>, AllocError>
+    ensures { IfOk result (λ answer. IsStuckShownAs (named file.entry) form found.now answer.items) }
+{
+    let mut answer = Vec::new(alloc);
+    match form {
+        FoundAs::Words => put_stuck_found(&mut answer, alloc, file, found)?,
+        FoundAs::Json => put_stuck_json(&mut answer, alloc, file, found)?,
+        FoundAs::Picture => put_stuck_picture(&mut answer, notes, alloc, file, text, found)?,
     }
     Ok(answer)
 }

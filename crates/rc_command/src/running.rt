@@ -23,6 +23,9 @@ use rc_report::verdict::{Verdict, print_verdict};
 use rc_run::gate::OpenGate;
 use rc_run::report::{RunFault, RunReport};
 use rc_run::runner::run;
+use rc_runs::stuck_text::rerun::waits_after;
+use rc_runs::stuck_text::waits::put_waits;
+use rc_text::text::put_piece;
 use rc_world::event::Event;
 use std::alloc::{AllocError, Global};
 use std::sync::{Arc, Wait};
@@ -111,7 +114,28 @@ fn write_summary<S: Sink>(
     let lines = Lines::of(alloc, text)?;
     let mut answer = Vec::new(alloc);
     put_summary(&mut answer, alloc, &lines, program, history, end)?;
+    put_stuck(&mut answer, alloc, program, history, end)?;
     write_answer(sink, &answer, end.status())
+}
+
+/// Adds what the threads wait for, where a run came to its limit in a stuck world.
+fn put_stuck(
+    text: &mut Vec<u8>,
+    alloc: Global,
+    program: &Program,
+    history: &[Event],
+    end: End,
+) -> Result<(), AllocError> {
+    let End::Limit = end else {
+        return Ok(());
+    };
+    match waits_after(alloc, program, history)? {
+        Some(waits) => {
+            put_piece(text, b"stuck there:\n")?;
+            put_waits(text, b"  ", &waits)
+        }
+        None => Ok(()),
+    }
 }
 
 /// What a run did, and how it ended.

@@ -37,6 +37,8 @@ pub struct Searching {
     pub walks: u32,
     /// How the run that is found is shown.
     pub form: FoundAs,
+    /// Whether a run is looked for after which nothing can go on, in place of one into a fault.
+    pub stuck: bool,
 }
 
 /// What `follow` is asked for.
@@ -80,7 +82,7 @@ pub enum Command<'a> {
     Keeps,
     /// Step the program, and show its run.
     Step(Stepping<'a>),
-    /// Look for a run of the refused program into a fault.
+    /// Look for a run of the refused program into a fault, or of any program into a stuck world.
     Find(Searching),
     /// Run the program on threads: with the choices of this seed, and at most so many events of its threads, from 1.
     /// What happened is written as a summary or as a trace.

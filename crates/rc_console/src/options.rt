@@ -133,7 +133,13 @@ fn find_of<'a>(alloc: Global, find: &ArgMatches<'a>) -> Result<Command<'a>, Word
         (false, true) => FoundAs::Json,
         (false, false) => FoundAs::Words,
     };
-    Ok(Command::Find(Searching { seed, walks, form }))
+    let stuck = find.get_flag("stuck");
+    Ok(Command::Find(Searching {
+        seed,
+        walks,
+        form,
+        stuck,
+    }))
 }
 
 /// The command `run`. That its numbers are there and in their ranges was seen before.

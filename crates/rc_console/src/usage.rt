@@ -27,6 +27,12 @@ Example: ringcheck draft run1.log run2.log > model.rc
 
 docs/draft.md says how to read a draft, and what it is worth.";
 
+/// What is shown after the help of `find`.
+const FIND_HELP: &str =
+    "Exit status: that of the verdict; with --stuck 1 where a run is found, also of an accepted model.
+
+docs/patterns.md says what a stuck run is worth.";
+
 /// What is shown after the help of `follow`.
 const FOLLOW_HELP: &str =
     "Exit status: 0 followed, 1 departs, 2 unreadable, 3 full, too many candidates or no answer; the greatest of all logs.
@@ -217,10 +223,12 @@ fn described_walks<'a>(alloc: Global) -> Arg<'a> {
 
 /// The words of `find`.
 fn described_find<'a>(alloc: Global) -> Result<clap::Command<'a>, AllocError> {
+    let stuck = "Find a run, of any model, after which nothing can go on";
     let json = "Print what is found as one JSON object";
     let svg = "Print a picture of the run in place of the verdict and the trace, as SVG";
     let svg = described_svg(alloc, svg, "json")?;
     let args = vec![in alloc;
+        described_flag(alloc, "stuck", stuck),
         described_first(alloc),
         described_walks(alloc),
         described_flag(alloc, "json", json),
@@ -229,6 +237,7 @@ fn described_find<'a>(alloc: Global) -> Result<clap::Command<'a>, AllocError> {
     ]?;
     clap::Command::new(alloc, "find")
         .about("Find a run of a refused model into a fault, and print its moves and its trace")
+        .after_help(FIND_HELP)
         .args(args)
 }
 

@@ -212,7 +212,7 @@ const ABILITIES: &str = r#"{
         "documentFormattingProvider": true,
         "documentHighlightProvider": true,
         "documentSymbolProvider": true,
-        "executeCommandProvider": {"commands": ["ringcheck.find"]},
+        "executeCommandProvider": {"commands": ["ringcheck.find", "ringcheck.findStuck"]},
         "foldingRangeProvider": true,
         "hoverProvider": true,
         "positionEncoding": "utf-16",

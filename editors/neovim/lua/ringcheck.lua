@@ -10,9 +10,9 @@ local docs = vim.fn.fnamemodify(debug.getinfo(1, 'S').source:sub(2), ':p:h:h:h:h
 -- The client of neovim 0.7, which has no vim.lsp.start.
 local id
 
---- Shows the run into the fault in a window of its own: its moves and its trace.
-function M.find()
-  local params = { command = 'ringcheck.find', arguments = { vim.uri_from_bufnr(0) } }
+-- Shows the run that a command finds in a window of its own: its moves, its trace, and what its threads wait for.
+local function search(name, none)
+  local params = { command = name, arguments = { vim.uri_from_bufnr(0) } }
   vim.lsp.buf_request(0, 'workspace/executeCommand', params, function(why, told)
     if why or not told then
       vim.notify(why and why.message or 'nothing was answered', vim.log.levels.ERROR)
@@ -23,12 +23,25 @@ function M.find()
       vim.list_extend(lines, { '--moves ' .. told.moves })
       vim.list_extend(lines, vim.split(vim.trim(told.trace), '\n', { plain = true }))
     else
-      table.insert(lines, 'no run into a fault was found')
+      table.insert(lines, none)
+    end
+    for _, thread in ipairs(told.threads or {}) do
+      table.insert(lines, thread.name .. ' ' .. thread.says)
     end
     vim.cmd('botright new')
     vim.bo.buftype, vim.bo.bufhidden, vim.bo.swapfile = 'nofile', 'wipe', false
     vim.api.nvim_buf_set_lines(0, 0, -1, false, lines)
   end)
+end
+
+--- Shows the run into the fault.
+function M.find()
+  search('ringcheck.find', 'no run into a fault was found')
+end
+
+--- Shows a run after which nothing can go on.
+function M.find_stuck()
+  search('ringcheck.findStuck', 'not stuck in 2000 walks')
 end
 
 --- Indents the model by its blocks.
@@ -52,6 +65,7 @@ local function keys(_, buffer)
   map('gra', vim.lsp.buf.code_action)
   vim.api.nvim_buf_set_option(buffer, 'omnifunc', 'v:lua.vim.lsp.omnifunc')
   vim.api.nvim_buf_create_user_command(buffer, 'RingcheckFind', M.find, {})
+  vim.api.nvim_buf_create_user_command(buffer, 'RingcheckFindStuck', M.find_stuck, {})
   vim.api.nvim_buf_create_user_command(buffer, 'RingcheckFormat', M.format, {})
 end
 

@@ -6,6 +6,7 @@ ghost use Rattle.rc_log.specs.Waiting.{left};
 ghost use Rattle.rc_command.specs.Logs.{Ends, FollowsLine, Headed, IsDeclared, IsOther, IsRoomy, KeepsReached, Reaches, Ringed, Stops, Under};
 
 use crate::departures::ending::Ending;
+use crate::departures::stuck::ending_there;
 use crate::departures::why::{put_says, put_why};
 use itoa::Buffer;
 use rc_follow::follower::{Answer, Follower};
@@ -36,30 +37,31 @@ pub fn follow_log<'a, R: Read + Drop>(
     ensures reached { IfOk result (Reaches follower.old (R.remaining reader) follower.new) }
     ensures unread { IfErr result (KeepsReached follower.old follower.new) }
 {
-    let ending = follow_lines(alloc, lines, follower, reader)?;
+    let mut log = LogReader::new(alloc, reader)?;
+    let ending = follow_lines(alloc, lines, follower, &mut log)?;
+    let ending = ending_there(alloc, follower, ending, log.is_done())?;
     follower.end();
     Ok(ending)
 }
 
 /// Follows a log up to its end, or to the line at which it ends otherwise.
 #[tactic(auto, using(crate::proofs::Under::begun, crate::proofs::Under::stops_at_once, crate::proofs::Under::under_stop, crate::proofs::Under::keeps_next, crate::proofs::Under::keeps_still, crate::proofs::Under::keeps_memory))]
-fn follow_lines<'a, R: Read + Drop>(
+fn follow_lines<'a, R: Read>(
     alloc: Global,
     lines: &Lines<'_>,
     follower: &mut Follower<'a>,
-    reader: R,
+    log: &mut LogReader<R>,
 ) -> Result<Ending, LogFault>
     ensures program { follower.new.program ≡ follower.old.program }
     ensures unread { IfErr result (KeepsReached follower.old follower.new) }
-    ensures stops { IfOk result (Stops follower.old (R.remaining reader) follower.new) }
+    ensures stops { IfOk result (Stops follower.old (left R.remaining log.old) follower.new) }
 {
     follower.begin(alloc)?;
-    let mut log = LogReader::new(alloc, reader)?;
-    if let Some(ending) = read_heads(alloc, follower.program(), &mut log)? {
+    if let Some(ending) = read_heads(alloc, follower.program(), log)? {
         return Ok(ending);
     }
     for number in 3..u64::MAX {
-        if let Some(ending) = follow_next(alloc, lines, follower, &mut log, number)? {
+        if let Some(ending) = follow_next(alloc, lines, follower, log, number)? {
             return Ok(ending);
         }
     }

@@ -5,7 +5,7 @@ ghost use Rattle.serde_json.specs.Data.{array};
 ghost use Rattle.serde_json.specs.View.{items_of, view};
 ghost use Rattle.serde_json.specs.Written.{compact_text, has_float};
 ghost use Rattle.rc_command.specs.declared.departures.ending.Ending.TheVariants.{Full};
-ghost use Rattle.rc_command.specs.Endings.{ending_json, ending_object};
+ghost use Rattle.rc_command.specs.Endings.{ending_json, ending_object, stuck_object as spec_stuck_object};
 ghost use Rattle.rc_command.specs.Unmade as spec;
 ghost use Rattle.rc_command.specs.Unmade.{call_object, unmade_printed};
 ghost use Rattle.rc_report.specs.Shown.{shown};
@@ -15,6 +15,8 @@ use crate::departures::ending::Ending;
 use crate::departures::unmade::word_of;
 use rc_lang::lines::Line;
 use rc_report::shown::put_shown;
+use rc_runs::stuck_text::object::threads_value;
+use rc_runs::stuck_text::waits::Wait;
 use rc_text::text::put_piece;
 use serde_json::{Value, json};
 use std::alloc::{AllocError, Global};
@@ -86,6 +88,7 @@ pub fn object_of(alloc: Global, log: &str, ending: &Ending) -> Result<Value, All
         Ending::Followed { calls } => {
             json!(in alloc; {"answer": "followed", "calls": *calls, "log": log})
         }
+        Ending::Stuck { calls, waits } => stuck_object(alloc, log, *calls, waits),
         Ending::Full { calls } => full_object(alloc, log, *calls),
         Ending::Departs {
             number,
@@ -106,6 +109,14 @@ pub fn object_of(alloc: Global, log: &str, ending: &Ending) -> Result<Value, All
             json!(in alloc; {"answer": "too many", "line": *number, "log": log})
         }
     }
+}
+
+/// A log that is followed and stuck after so many calls.
+fn stuck_object(alloc: Global, log: &str, calls: u64, waits: &[Wait]) -> Result<Value, AllocError>
+    ensures { IfOk result (λ v. view v ≡ spec_stuck_object log.now calls waits.now) }
+{
+    let threads = threads_value(alloc, waits)?;
+    json!(in alloc; {"answer": "followed", "calls": calls, "log": log, "stuck": threads})
 }
 
 /// A log that was full after so many calls.

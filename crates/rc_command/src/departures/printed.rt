@@ -1,7 +1,8 @@
 //! What is printed of logs, as text and as JSON.
 
 ghost use Rattle.std.specs.Prelude.{false};
-ghost use Rattle.rc_command.specs.Endings.{after_name, ending_printed, ending_text};
+ghost use Rattle.rc_command.specs.declared.departures.ending.Ending.TheVariants.{Full};
+ghost use Rattle.rc_command.specs.Endings.{after_name, ending_printed, ending_text, stuck_after_name};
 ghost use Rattle.rc_command.specs.Unmade.{unmade_line, unmade_printed};
 ghost use Rattle.rc_text.specs.Text.{Puts};
 
@@ -11,6 +12,7 @@ use crate::departures::unmade::word_of;
 use itoa::Buffer;
 use rc_lang::lines::Line;
 use rc_report::shown::put_shown;
+use rc_runs::stuck_text::waits::{Wait, put_waits};
 use rc_text::text::{put_counted, put_pieces};
 use std::alloc::{AllocError, Global};
 
@@ -46,14 +48,8 @@ fn put_after_name(text: &mut Vec<u8>, ending: &Ending) -> Result<(), AllocError>
     let mut line = Buffer::new();
     match ending {
         Ending::Followed { calls } => put_counted(text, b": followed ", *calls, b" calls\n"),
-        Ending::Full { calls } => {
-            put_counted(
-                text,
-                b": followed ",
-                *calls,
-                b" calls, then the log was full\n",
-            )
-        }
+        Ending::Stuck { calls, waits } => put_stuck(text, *calls, waits),
+        Ending::Full { calls } => put_full(text, *calls),
         Ending::Departs {
             number,
             place,
@@ -77,6 +73,22 @@ fn put_after_name(text: &mut Vec<u8>, ending: &Ending) -> Result<(), AllocError>
             put_counted(text, b": too many candidates at log line ", *number, b"\n")
         }
     }
+}
+
+/// Adds that a log is followed and stuck there.
+fn put_stuck(text: &mut Vec<u8>, calls: u64, waits: &[Wait]) -> Result<(), AllocError>
+    ensures { Puts text.old text.new (stuck_after_name calls waits.now) result }
+{
+    put_counted(text, b": followed ", calls, b" calls; stuck there:\n")?;
+    put_waits(text, b"  ", waits)
+}
+
+/// Adds that a log is followed and was full then.
+fn put_full(text: &mut Vec<u8>, calls: u64) -> Result<(), AllocError>
+    ensures { Puts text.old text.new (after_name (Full calls)) result }
+{
+    let after = b" calls, then the log was full\n";
+    put_counted(text, b": followed ", calls, after)
 }
 
 /// Adds these calls of a program, which no log makes, in the order of the model: a line for each, or one JSON object.

@@ -34,7 +34,10 @@ impl Outcome {
     pub fn is_followed(&self) -> bool
         ensures { result ≡ spec.is_followed self.now }
     {
-        matches!(self, Outcome::Ended(Ending::Followed { .. }))
+        matches!(
+            self,
+            Outcome::Ended(Ending::Followed { .. } | Ending::Stuck { .. })
+        )
     }
 
     /// Whether it was read.

@@ -91,7 +91,7 @@ fn put_ended(told: &mut Vec<u8>, name: &str, ending: &Ending) -> Result<(), Allo
     ensures { Puts told.old told.new (ended_line name.now ending.now) result }
 {
     match ending {
-        Ending::Followed { .. } => Ok(()),
+        Ending::Followed { .. } | Ending::Stuck { .. } => Ok(()),
         Ending::Departs {
             number,
             place,

@@ -11,6 +11,10 @@ pub returns-in_err-put_summary : goal.returns-in_err-put_summary
 returns-in_err-put_summary g c =
     does_nothing g.S.Sink.state c.args.sink.now c.args.sink.now (λ (status : ℕ) (text : List ℕ). status ≡ status_of_end c.args.end) c.from_residual-in_err-put_summary.result c.from_residual-in_err-put_summary.ensures.1 refl
 
+pub returns-in_err-put_stuck : goal.returns-in_err-put_stuck
+returns-in_err-put_stuck g c =
+    does_nothing g.S.Sink.state c.args.sink.now c.args.sink.now (λ (status : ℕ) (text : List ℕ). status ≡ status_of_end c.args.end) c.from_residual-in_err-put_stuck.result c.from_residual-in_err-put_stuck.ensures.1 refl
+
 pub returns : goal.returns
 returns g c =
     does_as g.S.Sink.state c.args.sink.now c.write_answer.new.sink (λ (s : ℕ) (text : List ℕ). (s ≡ c.status.result) × (text ≡ c.deref.result.now)) (λ (status : ℕ) (text : List ℕ). status ≡ status_of_end c.args.end)
