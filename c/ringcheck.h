@@ -34,6 +34,8 @@
     (RINGCHECK_NOT(ring), RINGCHECK_NOT(submitting), RINGCHECK_NOT(reaping))
 /* From here on this thread plays the model's thread NAME. */
 #define RINGCHECK_THREAD(name) RINGCHECK_NOT(name)
+/* From here on it plays the copy NUMBER, from 0, of the model's thread NAME, whose line is `thread NAME[N] holds ..`. */
+#define RINGCHECK_COPY(name, number) (RINGCHECK_NOT(name), RINGCHECK_NOT(number))
 /* This thread alone reaps, all its life, and takes no mutex for it. Else its first look at a completion says so. */
 #define RINGCHECK_REAPER() ((void)0)
 /* From here on these bytes play the model's buffer NAME, and no longer another. Many buffers may play one in turn. */
@@ -234,7 +236,7 @@ struct ringcheck_luck {
 };
 
 RINGCHECK_SHARED struct ringcheck_state ringcheck_state;
-RINGCHECK_SHARED __thread char ringcheck_thread[RINGCHECK_NAME] = "main";
+RINGCHECK_SHARED __thread char ringcheck_thread[RINGCHECK_NAME + 12] = "main"; /* a name, and a copy's number */
 RINGCHECK_SHARED __thread struct ringcheck_open ringcheck_open;
 RINGCHECK_SHARED __thread struct ringcheck_luck ringcheck_luck;
 RINGCHECK_SHARED __thread struct ringcheck_ring *ringcheck_last; /* what this thread's last call was on */
@@ -1800,6 +1802,9 @@ RINGCHECK_INSIDE void ringcheck_moves_thing(const char *mark, const char *pool, 
 #define RINGCHECK_RING_SIDES(ring, submitting, reaping) \
     ringcheck_log_ring((ring), 1, (submitting), (reaping), RINGCHECK_HERE)
 #define RINGCHECK_THREAD(name) ((void)strcpy(ringcheck_thread, ringcheck_name(name)), (void)(ringcheck_luck.is_named = 1))
+#define RINGCHECK_COPY(name, number)                                                                               \
+    ((void)snprintf(ringcheck_thread, sizeof ringcheck_thread, "%s[%u]", ringcheck_name(name), (unsigned)(number)), \
+     (void)(ringcheck_luck.is_named = 1))
 #define RINGCHECK_REAPER() ringcheck_reaper(RINGCHECK_HERE)
 #define RINGCHECK_BUFFER(address, size, name)                                                                  \
     ringcheck_say(&ringcheck_state.buffers, "buffer", (uint64_t)(uintptr_t)(address), (uint64_t)(size), 0, \

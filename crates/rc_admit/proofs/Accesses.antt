@@ -1,5 +1,5 @@
 -- What a thread has next, and what the rules ask where it reads or writes a buffer.
-use Rattle.std.proofs.Common.{◌≡◌, ℕ, ◌≤◌, true, false, length, Option, Some, None, refl, ap, subst, arith, []}
+use Rattle.std.proofs.Common.{◌≡◌, ℕ, ◌≤◌, true, false, length, Option, Some, None, refl, ap, ◌∙◌, subst, arith, []}
 use Rattle.std.proofs.lemmas.Option.{same_Some}
 use Rattle.std.proofs.lemmas.Bool.{leb-true}
 use Rattle.std.specs.Prelude.{slice_get}
@@ -18,6 +18,7 @@ use Rattle.rc_world.specs.Faults.{Access, access_by}
 use Rattle.rc_world.specs.Machine.{World}
 use Rattle.rc_admit.proofs.Rule.{met}
 use Rattle.rc_admit.proofs.Shares.{buffer_shared}
+use Rattle.rc_lang.proofs.Reading.{stmt_alone}
 
 -- ---- what the rules ask of an access
 
@@ -43,17 +44,24 @@ one_by P made b m n k _ h r a e = absurd (cc)
 
 -- ---- where a thread is
 
+-- The thread has this statement next.
 pub record Next (w : World) (i : ℕ) (s : Stmt) : Type 0 where
   pub thread : Standing
   pub stands : slice_get w.controls.threads i ≡ Some thread
-  pub line : stmt_at (lines_of w.program i) thread.place ≡ Some s
+  pub line : Line
+  pub is : next_at w.program i (Some thread) ≡ Some line
+  pub says : line.stmt ≡ s
 
 pub next_is : (w : World) (i : ℕ) (l : Line) → next_line w.program w.controls i ≡ Some l → Next w i l.stmt
 next_is w i l e = go (slice_get w.controls.threads i) refl e
   where
     go : (x : Option Standing) → slice_get w.controls.threads i ≡ x → next_at w.program i x ≡ Some l → Next w i l.stmt
     go None f h = absurd (cc)
-    go (Some t) f h = record { thread = t; stands = f; line = ap stmt_of h }
+    go (Some t) f h = record { thread = t; stands = f; line = l; is = h; says = refl }
+
+-- It is the one at the thread's place, where its label stands.
+pub written : (w : World) → IsProgram w.program → (i : ℕ) (s : Stmt) (n : Next w i s) → stmt_at (lines_of w.program i) n.thread.place ≡ Some s
+written w made i s n = stmt_alone w.program made i n.thread.variables n.thread.place n.line n.is ∙ ap Some n.says
 
 -- The names of its line are resolved.
 pub resolved_at : (P : Program) → IsProgram P → (i k : ℕ) (s : Stmt) → stmt_at (lines_of P i) k ≡ Some s → (n : ℕ) × (lists : ℕ) × IsResolved P n lists s

@@ -30,7 +30,7 @@ use Rattle.rc_world.specs.declared.controls.Look.TheVariants as looks
 use Rattle.rc_world.specs.declared.event.Completion.{Completion}
 use Rattle.rc_world.specs.declared.fault.FaultKind.{FaultKind}
 use Rattle.rc_world.specs.declared.fault.FaultKind.TheVariants.{WriteOfPending, ReadOfFilling, KernelClash, ThreadRace, RingFull, Overflow, AmbiguousData, UnknownReap, NoLock, RawEntry, OutOfBuffer, DoublePut}
-use Rattle.rc_world.specs.Controls.{Standing, next_line}
+use Rattle.rc_world.specs.Controls.{Standing, next_line, list_here, variables_in}
 use Rattle.rc_world.specs.Faults.{Access, access_at, access_of, clashes, conflicts, count_of, fault_of, front_is_known, front_is_one, has_cq, has_data, has_fault, has_sq, is_closed, is_cq_call, is_filling, is_full_at, is_in_flight, is_named, is_ambiguous_at, is_double_at, is_out_at, is_prepared, is_raw_at, is_sq_call, is_sq_op, is_unknown_at, lacks_lock, is_vacant, may_put, names, op_is_out, op_is_raw, overflows, races_from, reads_filling, reads_into, writes_pending}
 use Rattle.rc_world.specs.Machine.{Pending, World, is_read, slot_len, used_entries}
 use Rattle.rc_world.proofs.Lists.{found}
@@ -46,7 +46,8 @@ use Rattle.rc_admit.proofs.Rule.{CanLeave, asks_lock, brace_leaves, break_leaves
 use Rattle.rc_admit.proofs.Shares.{data_owned, data_pending, fills_all, names_one, no_clash}
 use Rattle.rc_admit.proofs.Tokens.{count_most, credits_owned, entry_free, token_owned}
 use Rattle.rc_world.proofs.LawFaultless.{without_fault}
-use Rattle.rc_admit.proofs.Accesses.{Next, all_by, next_is, one_by, resolved_at}
+use Rattle.rc_admit.proofs.Accesses.{Next, all_by, next_is, one_by, resolved_at, written}
+use Rattle.rc_lang.proofs.Reading.{list_alone}
 
 -- ---- what the rules ask of a lock
 
@@ -68,7 +69,7 @@ module _ (w : World) (made : IsProgram w.program) (S : Stand) (edge : HasEdge w.
   P = w.program
 
   edge_at : (i : ℕ) (s : Stmt) (n : Next w i s) → EdgeAt P S i (bags i) (modes i) n.thread.variables n.thread.place (Some s)
-  edge_at i s n = subst (λ y. EdgeAt P S i (bags i) (modes i) n.thread.variables n.thread.place y) n.line (edge i (bags i) (modes i) n.thread.variables n.thread.place (o.stands i n.thread n.stands))
+  edge_at i s n = subst (λ y. EdgeAt P S i (bags i) (modes i) n.thread.variables n.thread.place y) (written w made i s n) (edge i (bags i) (modes i) n.thread.variables n.thread.place (o.stands i n.thread n.stands))
 
   within : (i : ℕ) (s : Stmt) → Next w i s → i < length w.controls.threads
   within i s n = slice_get_within w.controls.threads i n.thread n.stands
@@ -103,7 +104,7 @@ module _ (w : World) (made : IsProgram w.program) (S : Stand) (edge : HasEdge w.
       go _ h a e y = absurd (cc)
 
   one_share : (i : ℕ) (s : Stmt) → Next w i s → (a : Access) → access_of s ≡ Some a → 1 ≤ bags i (ShareOf a.buffer)
-  one_share i s n = let r = resolved_at P made i n.thread.place s n.line in go s (edge_at i s n) r.0 r.1 r.2
+  one_share i s n = let r = resolved_at P made i n.thread.place s (written w made i s n) in go s (edge_at i s n) r.0 r.1 r.2
     where
       go : (s : Stmt) → EdgeAt P S i (bags i) (modes i) n.thread.variables n.thread.place (Some s) → (v k : ℕ) → IsResolved P v k s → (a : Access) → access_of s ≡ Some a → 1 ≤ bags i (ShareOf a.buffer)
       go (Do op) h v k r a e = one_by P made (bags i) (modes i) v k op h.0 r a e
@@ -351,7 +352,9 @@ module _ (w : World) (made : IsProgram w.program) (S : Stand) (edge : HasEdge w.
   no_double_put : (i : ℕ) (s : Stmt) (vars : List ℤ) (k : ℕ) → i < length w.controls.threads → EdgeAt P S i (bags i) (modes i) vars k (Some s) → is_double_at w i s ≡ false
   no_double_put i (Put pool n) vars k lt h =
       let items : Items = items_at (lists_of P i) n in
-      and_right (may_put w i pool) (overfills P (all_pooled P w.controls.pools) items) (room_in_pools P (all_pooled P w.controls.pools) items (room_for_put i items lt (put_covered P items (bags i) (modes i) pool h.0)))
+      let here : list_here P w.controls i n ≡ items = list_alone P made i (variables_in (slice_get w.controls.threads i)) n in
+      ap (λ x. may_put w i pool && overfills P (all_pooled P w.controls.pools) x) here
+      ∙ and_right (may_put w i pool) (overfills P (all_pooled P w.controls.pools) items) (room_in_pools P (all_pooled P w.controls.pools) items (room_for_put i items lt (put_covered P items (bags i) (modes i) pool h.0)))
   no_double_put i _ vars k lt h = refl
 
   -- ---- all of them

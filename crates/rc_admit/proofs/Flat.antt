@@ -21,6 +21,7 @@ use Rattle.rc_lang.proofs.Jumps.{IsLaid, arm_leads, back_leads, break_leads, cas
 use Rattle.rc_lang.proofs.Lookups.{blocks_next, line_with, locks_more, with_none}
 use Rattle.rc_lang.proofs.Rests.{laid_in}
 use Rattle.rc_lang.proofs.Spans.{case_between, nothing_between, other_between}
+use Rattle.rc_lang.proofs.Views.{is_view}
 use Rattle.rc_rules.specs.declared.mode.Mode.{Mode}
 use Rattle.rc_rules.specs.declared.mode.Peeked.{Peeked}
 use Rattle.rc_rules.specs.declared.mode.Peeked.TheVariants.{Unseen, Sees, SeesOther}
@@ -184,7 +185,7 @@ module _ (P : Program) (wf : IsProgram P) (i : ℕ) (thread : Thread) (labels : 
         to new may =
             let h = op_turns flag op vars new a.stored may in
             let w = comes_by (Do op) (λ y. turns (write_of flag op) y (side_of flag new)) (λ bag m. op_effect P bag m op) (label_at labels (k + 1) (side_of flag new)) e h.turns_to (g.after (side_of flag new)) in
-            behind_op P wf b m op (λ c n. Leads (Labelled P) i c n new (k + 1)) (label_at labels (k + 1) (side_of flag new)) w (λ c n l w. same c n new (k + 1) (blocks_next lines k (Do op) e) l h.stored w)
+            behind_op P (is_view P i wf) b m op (λ c n. Leads (Labelled P) i c n new (k + 1)) (label_at labels (k + 1) (side_of flag new)) w (λ c n l w. same c n new (k + 1) (blocks_next lines k (Do op) e) l h.stored w)
 
     -- what is put is not held after the line
     put_edge : (pool : Option ℕ) (n : ℕ) → stmt_at lines k ≡ Some (Put pool n) → EdgeAt P (Labelled P) i b m vars k (Some (Put pool n))

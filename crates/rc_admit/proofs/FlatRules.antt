@@ -6,7 +6,8 @@ use Rattle.rc_lang.specs.declared.lines.Locks.{Locks}
 use Rattle.rc_lang.specs.declared.lines.Op.{Op}
 use Rattle.rc_lang.specs.declared.lines.Test.{Test}
 use Rattle.rc_lang.specs.declared.lines.Test.TheVariants.{Compare, ReadyZero, SpaceAtLeast, Take, Any}
-use Rattle.rc_lang.specs.Program.{IsProgram, Items, Program, items_at}
+use Rattle.rc_lang.specs.Program.{Items, Program, items_at}
+use Rattle.rc_lang.specs.Views.{IsView}
 use Rattle.rc_rules.specs.declared.mode.Mode.{Mode}
 use Rattle.rc_rules.specs.declared.mode.Peeked.TheVariants.{Unseen}
 use Rattle.rc_rules.specs.declared.mode.Slot.TheVariants.{Closed}
@@ -39,7 +40,7 @@ pub for_each : {A : Type 0} {B : A → Type 0} (l : Label) (K : (x : A) → B x 
 for_each Dead K f = tt
 for_each (Live b m) K f = f
 
-pub behind_op : (P : Program) → IsProgram P → (b : Part → ℕ) (m : Mode) (op : Op) (K : Claim) (t : Label) → Weaker t (op_effect P b m op) → ((c : Part → ℕ) (n : Mode) → locks_of n ≡ locks_of m → Weaker t (Live c n) → K c n) → AtLive (op_effect P b m op) K
+pub behind_op : (P : Program) → IsView P → (b : Part → ℕ) (m : Mode) (op : Op) (K : Claim) (t : Label) → Weaker t (op_effect P b m op) → ((c : Part → ℕ) (n : Mode) → locks_of n ≡ locks_of m → Weaker t (Live c n) → K c n) → AtLive (op_effect P b m op) K
 behind_op P made b m op K t w f = effect_by P b m op made (λ s. Weaker t s → AtLive s K) (λ v. tt) (λ c n l few v. f c n l v) w
 
 -- where something is known of the way

@@ -1,15 +1,15 @@
 -- The threads of an accepted program start as their labellings say, and hold together no more than there is.
-use Rattle.std.proofs.Common.{◌≡◌, ℕ, suc, ◌+◌, ◌<◌, ◌≤◌, true, List, [], ◌∷◌, length, take_all, Option, Some, None, refl, sym, ap, ◌∙◌, subst, arith}
+use Rattle.std.proofs.Common.{◌≡◌, ℕ, suc, ◌+◌, ◌<◌, ◌≤◌, Bool, true, List, [], ◌∷◌, length, take_all, Option, Some, None, refl, sym, ap, ◌∙◌, subst, arith}
 use Rattle.std.specs.Prelude.{ℤ, pos, IfSome, replicate, slice_get}
 use Rattle.std.specs.Ordering.{int_eq}
 use Rattle.std.proofs.lemmas.List.{get_or-replicate, length-replicate}
-use Rattle.rc_lang.specs.Program.{IsProgram, Program, Thread, lines_in, lines_of, lists_in}
+use Rattle.rc_lang.specs.Program.{IsProgram, Program, Thread, line_end, lines_in, lines_of, lists_in}
 use Rattle.rc_rules.specs.Labels.{Live, Weaker}
 use Rattle.rc_rules.specs.Sides.{on}
-use Rattle.rc_rules.specs.Labellings.{Accepts, IsGood, header_premises, headers_bag, label_at, start_of}
+use Rattle.rc_rules.specs.Labellings.{Accepts, IsGood, given_to_pools, header_premises, may_hold, headers_bag, label_at, start_of}
 use Rattle.rc_rules.specs.Premises.{Meets}
 use Rattle.rc_rules.specs.Rules.{limit, unlocked}
-use Rattle.rc_split.specs.Bags.{Part, ShareOf, TokenOf, Credit, bag_of}
+use Rattle.rc_split.specs.Bags.{Part, ShareOf, TokenOf, Credit, bag_of, begun}
 use Rattle.rc_rules.proofs.Weaker.{same_below}
 use Rattle.rc_admit.proofs.Flat.{lead}
 use Rattle.rc_admit.proofs.FlatPlaces.{Labelled}
@@ -32,7 +32,7 @@ flag_stored (Some f) variables h few = let h' : f < variables = h in let l : len
 -- Each thread starts at its first place, which has the label of its header's items.
 pub labelled_start : (P : Program) → IsProgram P → Accepts P → HasStart P (Labelled P)
 labelled_start P made accepts i t e =
-    let h = (accepts i t e).labels in
+    let h = (accepts.threads i t e).labels in
     let good : IsGood P t (lines_of P i) h.0 = subst (λ x. IsGood P t x h.0) (sym (ap lines_in e)) h.1 in
     let it = made.each i t e in
     let stored = flag_stored t.flag (length t.variables) it.flag.variable it.few_variables in
@@ -42,19 +42,22 @@ last : {A : Type 0} (x : A) (xs : List A) → (y : A) × (slice_get (x ∷ xs) (
 last x [] = (x, refl)
 last x (y ∷ xs) = last y xs
 
-within : (P : Program) (ts : List Thread) → Meets (header_premises P ts) → (p : Part) → headers_bag ts p ≤ limit P p
-within P ts h (ShareOf b) = h.0 (ShareOf b)
-within P ts h (TokenOf u) = h.1.0 (TokenOf u)
-within P ts h Credit = h.1.1.0 Credit
+within : (P : Program) (all : Part → ℕ) (alone : Bool) → Meets (header_premises P all alone) → (p : Part) → all p ≤ limit P p
+within P all alone h (ShareOf b) = h.0 (ShareOf b)
+within P all alone h (TokenOf u) = h.1.0 (TokenOf u)
+within P all alone h Credit = h.1.1.1.0 Credit
 
--- The headers hold together no more than there is: the last one's premises are of all of them.
-pub headers_within : (P : Program) → Accepts P → (p : Part) → headers_bag P.threads p ≤ limit P p
+-- Pools and headers give together no more than there is: the last header's premises are of all of them.
+pub headers_within : (P : Program) → Accepts P → (p : Part) → headers_bag (begun P.stock P.threads) p ≤ limit P p
 headers_within P accepts = go P.threads refl
   where
-    go : (ts : List Thread) → P.threads ≡ ts → (p : Part) → headers_bag P.threads p ≤ limit P p
-    go [] e p = let n : headers_bag P.threads p ≡ 0 = ap (λ ts. headers_bag ts p) e in omega arith
+    go : (ts : List Thread) → P.threads ≡ ts → (p : Part) → headers_bag (begun P.stock P.threads) p ≤ limit P p
+    go [] e p =
+        let pools : headers_bag (begun P.stock P.threads) p ≡ given_to_pools P (length P.stock) p = ap (λ xs. headers_bag (begun P.stock xs) p) e ∙ sym (ap (λ ss. headers_bag (begun ss []) p) (take_all (length P.stock) P.stock (omega arith))) in
+        omega (arith, pools, within P (given_to_pools P (length P.stock)) true accepts.pools p)
     go (t ∷ ts) e p =
         let l = last t ts in
-        let h = (accepts (length ts) l.0 (ap (λ xs. slice_get xs (length ts)) e ∙ l.1)).header in
+        let h = (accepts.threads (length ts) l.0 (ap (λ xs. slice_get xs (length ts)) e ∙ l.1)).header in
         let n : length P.threads ≡ suc (length ts) = ap length e in
-        within P P.threads (subst (λ xs. Meets (header_premises P xs)) (take_all (length ts + 1) P.threads (omega arith)) h) p
+        let alone = may_hold (slice_get P.threads (length ts)) in
+        within P (headers_bag (begun P.stock P.threads)) alone (subst (λ xs. Meets (header_premises P (headers_bag (begun P.stock xs)) alone)) (take_all (line_end P.threads (length ts)) P.threads (omega arith)) h) p

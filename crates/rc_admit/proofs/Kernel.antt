@@ -10,7 +10,7 @@ use Rattle.rc_rules.specs.declared.mode.Peeked.{Peeked}
 use Rattle.rc_rules.specs.declared.mode.Peeked.TheVariants.{Unseen, Sees, SeesOther, Got}
 use Rattle.rc_rules.specs.declared.mode.Mode.{Mode}
 use Rattle.rc_rules.specs.Labellings.{headers_bag}
-use Rattle.rc_split.specs.Bags.{Part}
+use Rattle.rc_split.specs.Bags.{Part, begun}
 use Rattle.rc_world.specs.declared.controls.Look.{Look}
 use Rattle.rc_world.specs.declared.controls.Look.TheVariants as looks
 use Rattle.rc_world.specs.declared.event.Completion.{Completion}
@@ -26,6 +26,7 @@ use Rattle.rc_admit.proofs.Lists.{sum_to, sum_over, Each-append, Each-without, E
 use Rattle.rc_admit.proofs.Ops.{Keeps}
 use Rattle.rc_admit.proofs.Owned.{Stand, HasEdge, EdgeAt, owns_pending, unheld, CqFits, FrontFits, IsNonempty, held, held_map, HasKindPending, Owned, WellOwned}
 use Rattle.rc_admit.proofs.Steps.{line_keeps, stray_keeps}
+use Rattle.rc_lang.proofs.Reading.{stmt_alone}
 
 -- It holds of the world after a step, where that can be made.
 abbrev pub AfterStep : (World → Type 0) → Option (Event × World) → Type 0
@@ -96,7 +97,7 @@ completes_keeps P S w k res x bs e h =
         stands = o.stands;
         total = λ p.
             let a : sum_over (owns_pending P p) (without k w.pending) + sum_over (owns P p) (w.completed ++ r ∷ []) ≡ sum_over (owns_pending P p) w.pending + sum_over (owns P p) w.completed = completed_sum (owns P p) k w.pending w.completed x e in
-            let t : sum_to (λ i. held P (h.0 i) (h.1 i) p) (length w.controls.threads) + unheld P w p ≤ headers_bag P.threads p = o.total p in
+            let t : sum_to (λ i. held P (h.0 i) (h.1 i) p) (length w.controls.threads) + unheld P w p ≤ headers_bag (begun P.stock P.threads) p = o.total p in
             omega arith;
         within = o.within;
         free = o.free;
@@ -127,7 +128,7 @@ own_step S w i r made edge h = go (slice_get w.controls.threads i) refl (next_li
     go None e y f = tt
     go (Some t) e None f = tt
     go (Some t) e (Some l) f =
-        let at : stmt_of (slice_get (lines_of w.program i) t.place) ≡ Some l.stmt = ap stmt_of (ap (λ x. next_at w.program i x) (sym e) ∙ f) in
+        let at : stmt_of (slice_get (lines_of w.program i) t.place) ≡ Some l.stmt = stmt_alone w.program made i t.variables t.place l (ap (λ x. next_at w.program i x) (sym e) ∙ f) in
         let line = line_keeps w.program made S edge w h.0 h.1 i t r h.2 e l.stmt (subst (λ x. EdgeAt w.program S i (h.0 i) (h.1 i) t.variables t.place x) at (edge i (h.0 i) (h.1 i) t.variables t.place (h.2.stands i t e))) in
         subst (λ x. AfterStep (WellOwned w.program S) (with_controls (in_rings w t r l.stmt) (acts_on w.program w.controls i (stmt_answer w r l.stmt) x (next_line w.program w.controls i)))) (sym e)
         (subst (λ y. AfterStep (WellOwned w.program S) (with_controls (in_rings w t r l.stmt) (acts_on w.program w.controls i (stmt_answer w r l.stmt) (Some t) y))) (sym f)
@@ -145,7 +146,7 @@ own_stray S w i byte made edge h = go (slice_get w.controls.threads i) refl (nex
     go None e y f = tt
     go (Some t) e None f = tt
     go (Some t) e (Some l) f =
-        let at : stmt_of (slice_get (lines_of w.program i) t.place) ≡ Some l.stmt = ap stmt_of (ap (λ x. next_at w.program i x) (sym e) ∙ f) in
+        let at : stmt_of (slice_get (lines_of w.program i) t.place) ≡ Some l.stmt = stmt_alone w.program made i t.variables t.place l (ap (λ x. next_at w.program i x) (sym e) ∙ f) in
         let line = stray_keeps w.program made S edge w h.0 h.1 i t (pos 0) h.2 e byte l.stmt (subst (λ x. EdgeAt w.program S i (h.0 i) (h.1 i) t.variables t.place x) at (edge i (h.0 i) (h.1 i) t.variables t.place (h.2.stands i t e))) in
         event_keeps w.program S w.controls i l (Some w) (strays w.program w.controls i t byte l.stmt) line
 

@@ -14,7 +14,7 @@ use Rattle.rc_rules.specs.declared.mode.Submitting.{Submitting}
 use Rattle.rc_rules.specs.Labels.{WeakerMode, WeakerPeeked, WeakerSubmitting}
 use Rattle.rc_rules.proofs.Weaker.{sq_weaker}
 use Rattle.rc_rules.specs.Labellings.{headers_bag}
-use Rattle.rc_split.specs.Bags.{Part}
+use Rattle.rc_split.specs.Bags.{Part, begun}
 use Rattle.rc_world.specs.declared.event.Completion.{Completion}
 use Rattle.rc_world.specs.declared.world.Slot.{Slot as Entry}
 use Rattle.rc_world.specs.declared.world.Slot.TheVariants as entries
@@ -168,7 +168,7 @@ module _ (P : Program) (S : Stand) (edge : HasEdge P S) (w w1 : World) (bags : �
               let less : s.bag p ≤ b p = s.less p in
               let stage : mode_bag P s.mode p ≡ mode_bag P m p = mode_bag_same P s.mode m p s.weaker in
               let local : held P b m p + unheld P w1 p ≤ f i + unheld P w p = v.local p in
-              let before : sum_to f (length w.controls.threads) + unheld P w p ≤ headers_bag P.threads p = o.total p in
+              let before : sum_to f (length w.controls.threads) + unheld P w p ≤ headers_bag (begun P.stock P.threads) p = o.total p in
               let place : place_bag (cond e looks.Unseen look) p ≤ place_bag look p = place_later e look p in
               let same : sum_to g (length ts) ≡ sum_to g (length w.controls.threads) = ap (λ x. sum_to g x) len in
               omega (arith, local);

@@ -23,7 +23,7 @@ use Rattle.rc_rules.proofs.Weaker.{mode_refl, mode_trans}
 use Rattle.rc_rules.specs.Needs.{line_premises}
 use Rattle.rc_rules.specs.Labellings.{headers_bag}
 use Rattle.rc_rules.specs.Rules.{broken, freed, is_got, limit, locked, locks_of, op_effect, sq_of, test_effect, unlocked, with_peeked}
-use Rattle.rc_split.specs.Bags.{Part, TokenOf, bag_of, credits_bag, minus}
+use Rattle.rc_split.specs.Bags.{Part, TokenOf, bag_of, begun, credits_bag, minus}
 use Rattle.rc_split.specs.Pools.{all_pooled}
 use Rattle.rc_world.specs.declared.controls.Look.{Look}
 use Rattle.rc_world.specs.declared.controls.Look.TheVariants as looks
@@ -176,8 +176,8 @@ pub record Owned (P : Program) (S : ℕ → (Part → ℕ) → Mode → List ℤ
   pub of : w.program ≡ P
   pub room : length w.queued + slot_len w.slot ≤ P.entries
   pub stands : (i : ℕ) (t : Standing) → slice_get w.controls.threads i ≡ Some t → S i (bags i) (modes i) t.variables t.place
-  pub total : (p : Part) → sum_to (λ i. held P (bags i) (modes i) p) (length w.controls.threads) + unheld P w p ≤ headers_bag P.threads p
-  pub within : (p : Part) → headers_bag P.threads p ≤ limit P p
+  pub total : (p : Part) → sum_to (λ i. held P (bags i) (modes i) p) (length w.controls.threads) + unheld P w p ≤ headers_bag (begun P.stock P.threads) p
+  pub within : (p : Part) → headers_bag (begun P.stock P.threads) p ≤ limit P p
   pub free : w.controls.holders.sq ≡ None → (length w.queued ≤ P.left) × (w.slot ≡ entries.Closed)
   pub submits : (i : ℕ) → SqFits (length w.queued) w.slot (is_holder w.controls.holders.sq i) (modes i).sq
   pub idle : w.controls.holders.cq ≡ None → is_reaped w.controls.look ≡ false
@@ -198,7 +198,7 @@ module _ (P : Program) (S : Stand) (w : World) (bags : ℕ → Part → ℕ) (mo
   bound = omega (arith, o.total p, o.within p)
 
   -- It is at most what threads begin with: nothing is made anew.
-  pub bound_given : (i : ℕ) → i < length w.controls.threads → bags i p + unheld P w p ≤ headers_bag P.threads p
+  pub bound_given : (i : ℕ) → i < length w.controls.threads → bags i p + unheld P w p ≤ headers_bag (begun P.stock P.threads) p
   bound_given i lt = omega (arith, o.total p, sum_to_one (λ j. held P (bags j) (modes j) p) (length w.controls.threads) i lt)
 
   -- so without what threads hold, and with what one or two of them hold

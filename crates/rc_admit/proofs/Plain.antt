@@ -9,12 +9,12 @@ use Rattle.rc_lang.specs.declared.lines.Stmt.{Stmt}
 use Rattle.rc_lang.specs.declared.lines.Stmt.TheVariants.{Do, Put, Lock, EndLock, If, Peek, Loop, EndLoop, Break}
 use Rattle.rc_lang.specs.declared.lines.Test.{Test}
 use Rattle.rc_lang.specs.declared.lines.Test.TheVariants.{Compare, ReadyZero, SpaceAtLeast, Take, Any}
-use Rattle.rc_lang.specs.Program.{Program, items_at, lines_of, lists_of, stmt_at, stmt_of}
+use Rattle.rc_lang.specs.Program.{Program, items_at, lines_of, lists_of, stmt_at, stmt_of, rows_of}
 use Rattle.rc_split.specs.Pools.{Pools, all_pooled, includes, overfills, pool_of}
 use Rattle.rc_world.specs.declared.controls.Answer.{Answer}
 use Rattle.rc_world.specs.declared.controls.Answer.TheVariants.{Plain, Number, Byte, Front}
 use Rattle.rc_world.specs.declared.event.Event.{Event}
-use Rattle.rc_world.specs.Controls.{Controls, Move, Standing, acts, acts_on, are_free, as_event, branches, decides, does, is_choice, loads, low_byte, made, next_at, next_line, passes_arm, peeks, plainly, reaps, submits, variable}
+use Rattle.rc_world.specs.Controls.{Controls, Move, Standing, acts, acts_on, are_free, as_event, branches, decides, does, is_choice, loads, low_byte, made, next_at, next_line, passes_arm, peeks, plainly, reaps, submits, variable, list_at}
 use Rattle.rc_world.specs.Machine.{World, bytes_of, count_in, hands_over, in_rings, kernel_step, start_world, stmt_answer, thread_step, thread_step_at, with_controls}
 use Rattle.rc_world.specs.Runs.{IsRun}
 use Rattle.rc_world.proofs.Cases.{OnSome, on_filled, on_opened, on_prepared, on_queued, on_reaped, on_stored, on_submitted}
@@ -22,6 +22,7 @@ use Rattle.rc_admit.specs.Worlds.{CompletionsAgree, GetsNoData, OfWorldsWithoutG
 use Rattle.rc_admit.proofs.Flight.{agree_more, all_unreaped, begun, data_in, data_of, front_goes, front_is, is_reaped}
 use Rattle.rc_admit.proofs.Kernel.{AfterStep, kernel_after}
 use Rattle.rc_admit.proofs.Moves.{idle_later}
+use Rattle.rc_lang.proofs.Reading.{get_written, written_at}
 
 -- ---- what a thread's move leaves of the front
 
@@ -71,7 +72,7 @@ module _ (P : Program) (c : Controls) (i : ℕ) (t : Standing) (n : is_reaped c.
   decides_so (Compare x k v) a = plain _ a n
   decides_so ReadyZero (Number k) = n
   decides_so (SpaceAtLeast m) (Number k) = n
-  decides_so (Take pool k) a = plain _ a (taken (includes P (pool_of c.pools pool) (items_at (lists_of P i) k)) _)
+  decides_so (Take pool k) a = plain _ a (taken (includes P (pool_of c.pools pool) (list_at P i t k)) _)
   decides_so Any (Number k) = chosen (is_choice k) _
   decides_so _ _ = tt
 
@@ -90,7 +91,7 @@ module _ (P : Program) (c : Controls) (i : ℕ) (t : Standing) (n : is_reaped c.
 
   acts_so : (s : Stmt) (a : Answer) → (s ≡ Do CqeGetData64 → ⊥) → OnMove NotGot (acts P c i t s a)
   acts_so (Do op) a h = does_so op a (λ e. h (ap Do e))
-  acts_so (Put pool k) a h = unless (overfills P (all_pooled P c.pools) (items_at (lists_of P i) k)) _ a n
+  acts_so (Put pool k) a h = unless (overfills P (all_pooled P c.pools) (list_at P i t k)) _ a n
   acts_so (Lock wanted) a h = where_free (are_free wanted c.holders) _ a n
   acts_so (EndLock o released) a h = plain _ a n
   acts_so (If test) a h = decides_so test a
@@ -143,8 +144,8 @@ module _ (w : World) (h : IsPlain w) where
       go None e y f = tt
       go (Some t) e None f = tt
       go (Some t) e (Some l) f =
-          let at : stmt_at (lines_of w.program i) t.place ≡ Some l.stmt = ap stmt_of (ap (λ x. next_at w.program i x) (sym e) ∙ f) in
-          let other : l.stmt ≡ Do CqeGetData64 → ⊥ = λ q. h.agrees.0 i t.place (at ∙ ap Some q) in
+          let v = written_at w.program i t.variables t.place l (ap (λ x. next_at w.program i x) (sym e) ∙ f) in
+          let other : l.stmt ≡ Do CqeGetData64 → ⊥ = λ q. h.agrees.0 i t.place (v.says ∙ ap Some (get_written w.program (rows_of w.program i) t.variables v.written.stmt (sym v.read ∙ q))) in
           subst (λ x. AfterStep IsPlain (with_controls (in_rings w t r l.stmt) (acts_on w.program w.controls i (stmt_answer w r l.stmt) x (next_line w.program w.controls i)))) (sym e)
           (subst (λ y. AfterStep IsPlain (with_controls (in_rings w t r l.stmt) (acts_on w.program w.controls i (stmt_answer w r l.stmt) (Some t) y))) (sym f)
           (event i l (in_rings w t r l.stmt) (acts w.program w.controls i t l.stmt (stmt_answer w r l.stmt)) (rings t r l.stmt other) (acts_so w.program w.controls i t h.none_got l.stmt (stmt_answer w r l.stmt) other)))

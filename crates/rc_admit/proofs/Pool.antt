@@ -1,15 +1,15 @@
 -- What tests of the items of a put and of a take say, where nobody has more of a part than there is.
-use Rattle.std.proofs.Common.{◌≡◌, ℕ, ◌+◌, ◌<◌, ◌≤◌, true, false, List, [], ◌∷◌, length, Option, Some, None, nat_eq, slice_get, refl, subst, sym, inl, inr, arith, All}
-use Rattle.std.specs.Prelude.{nat_lt}
+use Rattle.std.proofs.Common.{◌≡◌, ℕ, ◌+◌, ◌≤◌, true, false, List, [], ◌∷◌, length, Option, Some, None, nat_eq, slice_get, refl, subst, sym, inl, inr, arith, All}
 use Rattle.std.specs.List.{IsDistinct, list_all, list_any}
-use Rattle.std.proofs.lemmas.Bool.{and_from, cases_order, eqb-true, le-leb, leb-true, ltb-true, or_cases, or_from, false_from_ne_true}
+use Rattle.std.proofs.lemmas.Bool.{and_from, cases_order, eqb-true, le-leb, or_cases}
 use Rattle.std.proofs.lemmas.List.{get_or_past}
 use Rattle.std.proofs.lemmas.List.Elements.{All-get_or, All-nil}
 use Rattle.rc_lang.specs.declared.program.Share.{Share}
-use Rattle.rc_lang.specs.Program.{IsItems, IsList, IsProgram, Items, Program, Thread, items_at, lists_in, lists_of, no_items, shares_at}
+use Rattle.rc_lang.specs.Program.{IsItems, IsList, IsProgram, Items, Program, Thread, items_at, lists_in, lists_of, no_items}
 use Rattle.rc_split.specs.Bags.{Part, ShareOf, TokenOf, Credit, bag_of}
-use Rattle.rc_split.specs.Pools.{is_there, is_too_many, overfills}
-use Rattle.rc_split.proofs.PoolBags.{one_share, one_token, shares_in, tokens_in}
+use Rattle.rc_split.specs.Pools.{all_of, fits, overfills}
+use Rattle.rc_split.proofs.Named.{all_tested, true_not}
+use Rattle.rc_split.proofs.PoolBags.{one_token, tokens_in}
 use Rattle.rc_rules.specs.Rules.{has_room, is_within_limit, limit}
 
 -- ---- the items of a put and of a take
@@ -37,13 +37,7 @@ items_of P made i k = go (slice_get P.threads i) refl
 
 -- ---- parts that are named
 
--- A share that is named is among the items, and so is a token.
-share_most : (s : Share) (ss : List Share) → s.count + shares_in ss s.buffer ≤ shares_in (s ∷ ss) s.buffer
-share_most s ss = elim (one_share s ss s.buffer) [ inl o ↦ omega (arith, o.1) | inr o ↦ absurd (o.0 refl) ]
-
-share_more : (s : Share) (ss : List Share) (b : ℕ) → shares_in ss b ≤ shares_in (s ∷ ss) b
-share_more s ss b = elim (one_share s ss b) [ inl o ↦ omega (arith, o.1) | inr o ↦ omega (arith, o.1) ]
-
+-- A token that is named is among the items.
 token_more : (t : ℕ) (ts : List ℕ) (u : ℕ) → tokens_in ts u ≤ tokens_in (t ∷ ts) u
 token_more t ts u = elim (one_token t ts u) [ inl o ↦ omega (arith, o.1) | inr o ↦ omega (arith, o.1) ]
 
@@ -73,26 +67,11 @@ module _ (P : Program) (items : Items) (b : Part → ℕ) (few : (p : Part) → 
   room_for = and_from _ (is_within_limit P b items Credit) (and_from _ _ (all_shares items.shares) (all_tokens items.tokens)) (le-leb _ _ (few Credit))
 
 module _ (P : Program) (there : Part → ℕ) (items : Items) (few : (p : Part) → there p + bag_of items p ≤ limit P p) where
-  no_share_over : (ss : List Share) → ((b : ℕ) → shares_in ss b ≤ bag_of items (ShareOf b)) → list_any (is_too_many P there) ss ≡ false
-  no_share_over [] in_all = refl
-  no_share_over (s ∷ ss) in_all =
-      or_from _ _
-      (false_from_ne_true (is_too_many P there s) (λ e.
-      let lt : shares_at P.buffers s.buffer < there (ShareOf s.buffer) + s.count = ltb-true _ _ e in
-      omega (arith, few (ShareOf s.buffer), share_most s ss, in_all s.buffer)))
-      (no_share_over ss (λ b. omega (arith, share_more s ss b, in_all b)))
-
-  no_token_over : (ts : List ℕ) → ((u : ℕ) → tokens_in ts u ≤ bag_of items (TokenOf u)) → list_any (is_there there) ts ≡ false
-  no_token_over [] in_all = refl
-  no_token_over (t ∷ ts) in_all =
-      or_from _ _
-      (false_from_ne_true (is_there there t) (λ e.
-      let le : 1 ≤ there (TokenOf t) = leb-true _ _ e in
-      omega (arith, few (TokenOf t), token_first t ts t refl, in_all t)))
-      (no_token_over ts (λ u. omega (arith, token_more t ts u, in_all u)))
+  fit : (p : Part) → there p + bag_of items p ≤ all_of P p
+  fit (ShareOf b) = few (ShareOf b)
+  fit (TokenOf u) = few (TokenOf u)
+  fit Credit = few Credit
 
   -- There is room for what isn't there.
   pub room_in_pools : overfills P there items ≡ false
-  room_in_pools =
-      or_from _ _ (or_from _ _ (no_share_over items.shares (λ b. omega arith)) (no_token_over items.tokens (λ u. omega arith)))
-      (false_from_ne_true (nat_lt P.completion_entries (there Credit + items.credits)) (λ e. let lt : P.completion_entries < there Credit + items.credits = ltb-true _ _ e in omega (arith, few Credit)))
+  room_in_pools = true_not (all_tested (fits P there items) items (λ p. le-leb _ _ (fit p)))

@@ -12,7 +12,7 @@ use Rattle.rc_rules.specs.Needs.{line_premises}
 use Rattle.rc_rules.specs.Premises.{Premise, Is, IsMet, Meets}
 use Rattle.rc_rules.specs.Room.{can_queue, few_credits, few_tokens}
 use Rattle.rc_rules.specs.Rules.{if_locked, is_got, leave_needs, peeked_of, premises_of, release_needs, same_slot, sq_of, with_lock}
-use Rattle.rc_split.specs.Bags.{Part, Credit, IsWithin, bag_of, credits_given, lacking}
+use Rattle.rc_split.specs.Bags.{Part, Credit, IsWithin, bag_of, begun, credits_given, lacking}
 
 -- A claim of a live state; of a dead one nothing is claimed.
 abbrev pub Claim : Type 1
@@ -104,11 +104,11 @@ put_covered P items b m None h = (has_both m.sq m.cq _ h).asked.0
 put_covered P items b m (Some n) h = h.0
 
 -- The three ways in which one more entry has room.
-pub can_queue_by : (P : Program) (b : Part → ℕ) (n : ℕ) → can_queue P b n ≡ true → (n < P.entries) ⊎ (lacking P.tokens b < P.entries) ⊎ (credits_given P.threads - b Credit < P.entries)
+pub can_queue_by : (P : Program) (b : Part → ℕ) (n : ℕ) → can_queue P b n ≡ true → (n < P.entries) ⊎ (lacking P.tokens b < P.entries) ⊎ (credits_given (begun P.stock P.threads) - b Credit < P.entries)
 can_queue_by P b n e = elim (or_cases (nat_lt n P.entries) (few_tokens P b || few_credits P b) e) [
   | inl x ↦ inl (ltb-true n P.entries x)
   | inr y ↦ inr (elim (or_cases (few_tokens P b) (few_credits P b) y) [
     | inl x ↦ inl (ltb-true (lacking P.tokens b) P.entries (and_parts (nat_le 4 P.version) (nat_lt (lacking P.tokens b) P.entries) x).1)
-    | inr x ↦ inr (ltb-true (credits_given P.threads - b Credit) P.entries (and_parts (nat_le 5 P.version) (nat_lt (credits_given P.threads - b Credit) P.entries) x).1)
+    | inr x ↦ inr (ltb-true (credits_given (begun P.stock P.threads) - b Credit) P.entries (and_parts (nat_le 5 P.version) (nat_lt (credits_given (begun P.stock P.threads) - b Credit) P.entries) x).1)
   ])
 ]

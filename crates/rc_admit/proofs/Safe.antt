@@ -5,7 +5,7 @@ use Rattle.rc_lang.specs.Program.{IsProgram, Program}
 use Rattle.rc_rules.specs.declared.mode.Mode.{Mode}
 use Rattle.rc_rules.specs.Labellings.{Accepts, headers_bag}
 use Rattle.rc_rules.specs.Rules.{limit}
-use Rattle.rc_split.specs.Bags.{Part}
+use Rattle.rc_split.specs.Bags.{Part, begun}
 use Rattle.rc_world.specs.declared.event.Event.{Event}
 use Rattle.rc_world.specs.Machine.{World, start_world}
 use Rattle.rc_world.specs.Runs.{IsRun, IsSafe, IsStep}
@@ -24,7 +24,7 @@ use Rattle.rc_admit.proofs.Start.{start_has}
 pub record IsClaim (P : Program) (S : ℕ → (Part → ℕ) → Mode → List ℤ → ℕ → Type 0) : Type 0 where
   pub edge : HasEdge P S
   pub start : HasStart P S
-  pub within : (p : Part) → headers_bag P.threads p ≤ limit P p
+  pub within : (p : Part) → headers_bag (begun P.stock P.threads) p ≤ limit P p
 
 step_keeps : (P : Program) → IsProgram P → (S : Stand) → HasEdge P S → (w after : World) (e : Event) → WellOwned P S w → IsWeakStep w e after → WellOwned P S after
 step_keeps P made S edge w after e h s = elim s [

@@ -1,14 +1,14 @@
 -- The start world has what is true of each world.
 use Rattle.std.proofs.Common.{◌≡◌, ℕ, zero, suc, ◌+◌, ◌≤◌, List, [], ◌∷◌, length, map, Option, Some, None, refl, sym, ap, ◌∙◌, subst, arith}
-use Rattle.std.specs.Prelude.{replicate, slice_get, ℤ, pos}
-use Rattle.rc_lang.specs.Program.{Program, Thread}
+use Rattle.std.specs.Prelude.{fold, replicate, slice_get, ℤ, pos}
+use Rattle.rc_lang.specs.Program.{Program, Stock, Thread}
 use Rattle.rc_rules.specs.declared.mode.Mode.{Mode}
 use Rattle.rc_rules.specs.Labels.{UnderLock, WeakerMode, WeakerPeeked, WeakerSubmitting}
 use Rattle.rc_rules.specs.Labellings.{headers_bag}
 use Rattle.rc_rules.specs.Rules.{limit, unlocked}
-use Rattle.rc_split.specs.Bags.{Part, bag_of}
-use Rattle.rc_split.specs.Pools.{all_pooled, empty_pools}
-use Rattle.rc_split.proofs.AllPools.{none_pooled}
+use Rattle.rc_split.specs.Bags.{Part, bag_of, begun}
+use Rattle.rc_split.specs.Pools.{Pools, all_pooled, empty_pools, put_into, start_pools}
+use Rattle.rc_split.proofs.AllPools.{all_with, none_pooled}
 use Rattle.rc_world.specs.Controls.{Standing}
 use Rattle.rc_world.specs.Machine.{start_world}
 use Rattle.rc_admit.proofs.Lists.{sum_to}
@@ -45,12 +45,31 @@ sum_front : (t : Thread) (ts : List Thread) (p : Part) (n : ℕ) → sum_to (λ 
 sum_front t ts p zero = omega arith
 sum_front t ts p (suc n) = let e : sum_to (λ i. bag_in (slice_get (t ∷ ts) i) p) (suc n) ≡ bag_of t.items p + sum_to (λ i. bag_in (slice_get ts i) p) n = sum_front t ts p n in omega arith
 
-sum_headers : (ts : List Thread) (p : Part) → sum_to (λ i. bag_in (slice_get ts i) p) (length (map first_standing ts)) ≡ headers_bag ts p
+sum_headers : (ts : List Thread) (p : Part) → sum_to (λ i. bag_in (slice_get ts i) p) (length (map first_standing ts)) ≡ headers_bag (begun [] ts) p
 sum_headers [] p = refl
 sum_headers (t ∷ ts) p =
     let a : sum_to (λ i. bag_in (slice_get (t ∷ ts) i) p) (suc (length (map first_standing ts))) ≡ bag_of t.items p + sum_to (λ i. bag_in (slice_get ts i) p) (length (map first_standing ts)) = sum_front t ts p (length (map first_standing ts)) in
-    let c : sum_to (λ i. bag_in (slice_get ts i) p) (length (map first_standing ts)) ≡ headers_bag ts p = sum_headers ts p in
+    let c : sum_to (λ i. bag_in (slice_get ts i) p) (length (map first_standing ts)) ≡ headers_bag (begun [] ts) p = sum_headers ts p in
     omega (arith, a)
+
+-- ---- pools
+
+both_begun : (ss : List Stock) (ts : List Thread) (p : Part) → headers_bag (begun ss []) p + headers_bag (begun [] ts) p ≡ headers_bag (begun ss ts) p
+both_begun [] ts p = omega arith
+both_begun (s ∷ ss) ts p = omega (arith, both_begun ss ts p)
+
+stocked : (P : Program) (ss : List Stock) (pools : Pools) (p : Part) → all_pooled P (fold (λ (ps : Pools) (s : Stock). put_into P s.pool s.items ps) pools ss) p ≤ all_pooled P pools p + headers_bag (begun ss []) p
+stocked P [] pools p = omega arith
+stocked P (s ∷ ss) pools p =
+    let next : Pools = put_into P s.pool s.items pools in
+    let rest : all_pooled P (fold (λ (ps : Pools) (s : Stock). put_into P s.pool s.items ps) next ss) p ≤ all_pooled P next p + headers_bag (begun ss []) p = stocked P ss next p in
+    omega (arith, rest, all_with P pools s.pool s.items p)
+
+-- Pools begin with no more than their lines say.
+start_pooled : (P : Program) (p : Part) → all_pooled P (start_pools P) p ≤ headers_bag (begun P.stock []) p
+start_pooled P p =
+    let all : all_pooled P (start_pools P) p ≤ all_pooled P (empty_pools P) p + headers_bag (begun P.stock []) p = stocked P P.stock (empty_pools P) p in
+    omega (arith, all, none_pooled P p)
 
 -- a thread of the start world, and its header
 first_at : (ts : List Thread) (i : ℕ) (th : Standing) → slice_get (map first_standing ts) i ≡ Some th → (t : Thread) × (slice_get ts i ≡ Some t) × (th ≡ first_standing t)
@@ -74,7 +93,7 @@ module _ (P : Program) (S : Stand) (start : HasStart P S) where
   first_stands i None e t h = absurd (cc)
   first_stands i (Some u) e t h = let l = start i u e in subst (λ m. S i l.bag m zeros 0) (unlocked_below l.mode l.weaker) l.stands
 
-  pub start_has : ((p : Part) → headers_bag P.threads p ≤ limit P p) → WellOwned P S (start_world P)
+  pub start_has : ((p : Part) → headers_bag (begun P.stock P.threads) p ≤ limit P p) → WellOwned P S (start_world P)
   start_has within = (
     λ i. first_bag i (slice_get P.threads i) refl,
     λ i. unlocked,
@@ -89,9 +108,8 @@ module _ (P : Program) (S : Stand) (start : HasStart P S) where
           let g : ℕ → ℕ = λ i. bag_in (slice_get P.threads i) p in
           let n : ℕ = length (map first_standing P.threads) in
           let x : sum_to f n ≤ sum_to g n = sum_to_most f g n (λ j. let h : first_bag j (slice_get P.threads j) refl p ≤ bag_in (slice_get P.threads j) p = first_most j (slice_get P.threads j) refl p in omega arith) in
-          let y : sum_to g n ≡ headers_bag P.threads p = sum_headers P.threads p in
-          let none : all_pooled P (empty_pools (length P.pools)) p ≡ 0 = none_pooled P (length P.pools) p in
-          omega (arith, x, y, none);
+          let y : sum_to g n ≡ headers_bag (begun [] P.threads) p = sum_headers P.threads p in
+          omega (arith, x, y, start_pooled P p, both_begun P.stock P.threads p);
       within = within;
       free = λ n. (omega arith, refl);
       idle = λ n. refl;

@@ -48,6 +48,7 @@ use Rattle.rc_admit.proofs.Owned.{Stand, Leads, MayPass, EdgeAt, HasEdge, slot_b
 use Rattle.rc_admit.proofs.Pool.{items_of, room_for, token_there}
 use Rattle.rc_admit.proofs.Rule.{AtLive, CanLeave, Claim, asks_lock, brace_leaves, brace_seen, break_leaves, break_seen, called, held_of, known_sq, put_covered}
 use Rattle.rc_admit.proofs.Tokens.{token_owned}
+use Rattle.rc_lang.proofs.Reading.{list_alone}
 
 -- what is claimed where a test that always may pass does
 as_passed : (l : Label) (K : Claim) → AtLive l (λ c n. Unit {0} → K c n) → AtLive l K
@@ -290,7 +291,7 @@ module _ (P : Program) (made : IsProgram P) (S : Stand) (edge : HasEdge P S) (w 
       go : (y : Bool) → includes P (pool_of w.controls.pools pool) items ≡ y → Keeps P S w.controls i (Some w) (Some (if y then record (branches P w.controls i t true) { pools = taken_from P pool items w.controls.pools } else branches P w.controls i t false))
       go false e = goes _ _ _ _ _ still b
       go true e =
-          let there : (p : Part) → bag_of items p ≤ pooled P (pool_of w.controls.pools pool) p = included P (pool_of w.controls.pools pool) items of e in
+          let there : (p : Part) → bag_of items p ≤ pooled P (pool_of w.controls.pools pool) p = included P (pool_of w.controls.pools pool) items e in
           let in_all : (p : Part) → bag_of items p ≤ all_pooled P w.controls.pools p = λ p. omega (arith, there p, pooled_most P w.controls.pools pool p) in
           goes _ _ _ _ _ (pooling P S w (taken_from P pool items w.controls.pools) bags modes i (plus (bags i) (bag_of items)) o (λ p. omega (arith, all_without P w.controls.pools pool items there p)))
           (subst (λ c. AtLive (cond c (Live (plus (bags i) (bag_of items)) (modes i)) Dead) (λ c n. Leads S i c n t.variables (t.place + 1))) (may_be_taken items in_all) a)
@@ -299,7 +300,10 @@ module _ (P : Program) (made : IsProgram P) (S : Stand) (edge : HasEdge P S) (w 
   if_keeps (Compare x c n) q a b = compare_keeps (compares c (slice_index_or t.variables x (pos 0)) n) a b
   if_keeps ReadyZero q a b = ready_keeps (int_eq (pos (used_entries w)) (pos 0)) refl q (a tt) (b tt)
   if_keeps (SpaceAtLeast n) q a b = space_keeps n (int_le (pos n) (pos (w.program.entries - used_entries w))) refl q (a tt) (b tt)
-  if_keeps (Take pool k) q a b = let items : Items = items_at (lists_of P i) k in take_keeps pool items (items_of P made i k) (as_passed (take_effect P (bags i) (modes i) items) (λ c n. Leads S i c n t.variables (t.place + 1)) a) (b tt)
+  if_keeps (Take pool k) q a b =
+      let items : Items = items_at (lists_of P i) k in
+      subst (λ (x : Items). Keeps P S w.controls i (Some w) (Some (tries_to_take P w.controls i t pool x))) (sym (list_alone P made i t.variables k)) (
+      take_keeps pool items (items_of P made i k) (as_passed (take_effect P (bags i) (modes i) items) (λ c n. Leads S i c n t.variables (t.place + 1)) a) (b tt))
   if_keeps Any q a b = choice_keeps (is_choice r) (a tt) (b tt)
 
   -- an arm of a peek, before which the front isn't got
@@ -328,7 +332,9 @@ module _ (P : Program) (made : IsProgram P) (S : Stand) (edge : HasEdge P S) (w 
   pub line_keeps : (s : Stmt) → EdgeAt P S i (bags i) (modes i) t.variables t.place (Some s) → Keeps P S w.controls i (in_rings w t r s) (acts P w.controls i t s (stmt_answer w r s))
   line_keeps (EndLock p l) h = release_keeps l h.0 h.1 h.2
   line_keeps (EndLoop p k) h = goes _ _ _ _ _ still h
-  line_keeps (Put pool k) h = let items : Items = items_at (lists_of P i) k in put_keeps pool items (put_covered P items (bags i) (modes i) pool h.0) h.1
+  line_keeps (Put pool k) h =
+      let items : Items = items_at (lists_of P i) k in
+      subst (λ (x : Items). Keeps P S w.controls i (Some w) (puts_items P w.controls t pool x Plain)) (sym (list_alone P made i t.variables k)) (put_keeps pool items (put_covered P items (bags i) (modes i) pool h.0) h.1)
   line_keeps (Do op) h = op_keeps P made S edge w bags modes i t r o get op h
   line_keeps (Lock l) h = lock_keeps l h
   line_keeps (If test) h = if_keeps test h.0 h.1 h.2

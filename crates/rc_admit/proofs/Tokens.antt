@@ -10,12 +10,12 @@ use Rattle.std.specs.Prelude.{nat_eq, slice_get}
 use Rattle.rc_lang.specs.declared.program.Token.{Token}
 use Rattle.rc_lang.specs.declared.program.TokenKind.{TokenKind}
 use Rattle.rc_lang.specs.declared.request.Request.{Request}
-use Rattle.rc_lang.specs.Program.{Program, Thread, token_place}
+use Rattle.rc_lang.specs.Program.{Items, Program, token_place}
 use Rattle.rc_rules.specs.declared.mode.Mode.{Mode}
 use Rattle.rc_rules.specs.Labellings.{headers_bag}
 use Rattle.rc_rules.specs.Kinds.{kinds_at, kinds_of, token_at}
 use Rattle.rc_rules.specs.Room.{can_queue}
-use Rattle.rc_split.specs.Bags.{Part, TokenOf, Credit, credits_given, lacking, token_bag}
+use Rattle.rc_split.specs.Bags.{Part, TokenOf, Credit, begun, credits_given, lacking, token_bag}
 use Rattle.rc_split.proofs.PoolBags.{same_or_not}
 use Rattle.rc_world.specs.Faults.{count_of}
 use Rattle.rc_world.specs.Machine.{World}
@@ -162,15 +162,15 @@ credits_owned P [] = omega arith
 credits_owned P (r ∷ rs) = let h : length rs ≤ sum_over (owns P Credit) rs = credits_owned P rs in omega arith
 
 -- Each queued request owns a credit, and threads hold and requests own no more than the threads began with.
-credits_of_headers : (ts : List Thread) → headers_bag ts Credit ≡ credits_given ts
+credits_of_headers : (lists : List Items) → headers_bag lists Credit ≡ credits_given lists
 credits_of_headers [] = refl
-credits_of_headers (t ∷ ts) = ap (λ n. t.items.credits + n) (credits_of_headers ts) ∙ sym (sum_by-cons (λ (x : Thread). x.items.credits) t ts)
+credits_of_headers (i ∷ is) = ap (λ n. i.credits + n) (credits_of_headers is) ∙ sym (sum_by-cons (λ (x : Items). x.credits) i is)
 
-few_by_credits : (P : Program) (S : Stand) (w : World) (bags : ℕ → Part → ℕ) (modes : ℕ → Mode) (i : ℕ) → Owned P S w bags modes → i < length w.controls.threads → length w.queued + bags i Credit ≤ credits_given P.threads
+few_by_credits : (P : Program) (S : Stand) (w : World) (bags : ℕ → Part → ℕ) (modes : ℕ → Mode) (i : ℕ) → Owned P S w bags modes → i < length w.controls.threads → length w.queued + bags i Credit ≤ credits_given (begun P.stock P.threads)
 few_by_credits P S w bags modes i o lt =
-    let given : bags i Credit + unheld P w Credit ≤ headers_bag P.threads Credit = bound_given P S w bags modes o Credit i lt in
+    let given : bags i Credit + unheld P w Credit ≤ headers_bag (begun P.stock P.threads) Credit = bound_given P S w bags modes o Credit i lt in
     let queued : length w.queued ≤ sum_over (owns P Credit) w.queued = credits_owned P w.queued in
-    omega (arith, given, queued, credits_of_headers P.threads)
+    omega (arith, given, queued, credits_of_headers (begun P.stock P.threads))
 
 -- The tokens of queued requests are declared, no two are the same, and no thread holds one of them.
 pub few_queued : (P : Program) (S : Stand) (w : World) (bags : ℕ → Part → ℕ) (modes : ℕ → Mode) (i : ℕ) → Owned P S w bags modes → i < length w.controls.threads → length w.queued ≤ lacking P.tokens (bags i)
@@ -194,6 +194,6 @@ entry_free P S w bags modes i o lt n few e = elim (can_queue_by P (bags i) n e) 
   | inl x ↦ omega (arith, x, few)
   | inr y ↦ elim y [
     | inl x ↦ let h : length w.queued ≤ lacking P.tokens (bags i) = few_queued P S w bags modes i o lt in omega (arith, x, h)
-    | inr x ↦ let h : length w.queued + bags i Credit ≤ credits_given P.threads = few_by_credits P S w bags modes i o lt in omega (arith, x, h)
+    | inr x ↦ let h : length w.queued + bags i Credit ≤ credits_given (begun P.stock P.threads) = few_by_credits P S w bags modes i o lt in omega (arith, x, h)
   ]
 ]

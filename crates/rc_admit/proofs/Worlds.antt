@@ -1,10 +1,10 @@
 -- What a world without a fault is like, and so each world of a run of a safe program.
-use Rattle.std.proofs.Common.{◌≡◌, ℕ, zero, suc, ◌+◌, ◌-◌, ◌<◌, ◌≤◌, ◌⊎◌, Bool, true, false, ◌&&◌, ◌||◌, List, [], ◌∷◌, length, drop, Option, Some, None, refl, sym, ap, ◌∙◌, subst, inl, inr, arith, length-drop}
+use Rattle.std.proofs.Common.{◌≡◌, ℕ, zero, suc, ◌+◌, ◌-◌, ◌<◌, ◌≤◌, ◌⊎◌, Bool, true, false, ◌&&◌, ◌||◌, List, [], ◌∷◌, length, drop, Option, Some, None, refl, sym, ap, ◌∙◌, subst, inl, inr, arith, get_or, length-drop}
 use Rattle.std.proofs.lemmas.Option.{slice_get_within}
-use Rattle.std.proofs.lemmas.Bool.{and_from, cases_order, eq-eqb, eqb-true, leb-false, leb-true, ltb-false, not-false, or_left, or_parts, or_right}
+use Rattle.std.proofs.lemmas.Bool.{and_from, and_parts, cases_order, eq-eqb, eqb-true, leb-false, leb-true, not-false, or_left, or_parts, or_right}
 use Rattle.std.proofs.lemmas.List.Elements.{All-from_get_or}
-use Rattle.std.specs.List.{list_any}
-use Rattle.std.specs.Prelude.{nat_eq, nat_le, nat_lt, not, slice_get}
+use Rattle.std.specs.List.{list_all, list_any}
+use Rattle.std.specs.Prelude.{nat_eq, nat_le, not, slice_get}
 use Rattle.rc_lang.specs.declared.lines.Op.{Op}
 use Rattle.rc_lang.specs.declared.lines.Op.TheVariants.{Load, Store, Fill, GetSqe, PrepRead, PrepWrite, PrepFsync, PrepNop, PrepOther, SetData64, Submit, SubmitAndWait, CqeGetData64, CqeSeen}
 use Rattle.rc_lang.specs.declared.lines.Stmt.{Stmt}
@@ -13,14 +13,15 @@ use Rattle.rc_lang.specs.declared.lines.Test.TheVariants.{ReadyZero, SpaceAtLeas
 use Rattle.rc_lang.specs.declared.request.Request.{Request}
 use Rattle.rc_lang.specs.declared.program.Share.{Share}
 use Rattle.rc_lang.specs.Program.{Items, bytes_at, items_at, lists_of, shares_at}
-use Rattle.rc_split.specs.Bags.{Part, ShareOf, TokenOf, Credit}
-use Rattle.rc_split.specs.Pools.{all_pooled, is_there, is_too_many, overfills}
-use Rattle.rc_split.proofs.Named.{no_share, none_at as none_in}
+use Rattle.rc_split.specs.Bags.{Part, ShareOf, TokenOf, Credit, bag_of, tokens_alone}
+use Rattle.rc_split.specs.Pools.{all_pooled, fits, overfills}
+use Rattle.rc_split.proofs.Named.{all_at, no_share}
+use Rattle.rc_split.proofs.Turns.{itself, tokens_more_le}
 use Rattle.rc_world.specs.declared.fault.FaultKind.{FaultKind}
 use Rattle.rc_world.specs.declared.fault.FaultKind.TheVariants.{WriteOfPending, ReadOfFilling, KernelClash, ThreadRace, RingFull, Overflow, AmbiguousData, NoLock, RawEntry, OutOfBuffer, DoublePut}
 use Rattle.rc_world.specs.declared.world.Slot.{Slot}
 use Rattle.rc_world.specs.declared.world.Slot.TheVariants.{Closed, Vacant, Prepared}
-use Rattle.rc_world.specs.Controls.{Standing, next_line}
+use Rattle.rc_world.specs.Controls.{Standing, next_line, list_here}
 use Rattle.rc_world.specs.Faults.{Access, access_at, access_by, access_of, clash, clashes, clashes_with, conflicts, fault_of, has_buffer, has_cq, has_data, has_fault, has_sq, in_kernel, is_closed, is_cq_call, is_holder, is_in_flight, is_prepared, is_raw_at, is_sq_call, is_vacant, may_put, names, overflows, races_from, reads_into}
 use Rattle.rc_world.specs.Machine.{Pending, World, is_read, used_entries}
 use Rattle.rc_world.proofs.LawFaultless.{none_at, none_in_kernel, none_of_kind}
@@ -294,23 +295,27 @@ module _ (w : World) (none : fault_of w ≡ None) where
 
   pub nothing_put_twice : NothingPutTwice w
   nothing_put_twice i k pool n =
-      let items : Items = items_at (lists_of w.program i) k in
+      let items : Items = list_here w.program w.controls i k in
       let there : Part → ℕ = all_pooled w.program w.controls.pools in
       let room : overfills w.program there items ≡ false = and_false (may_put w i pool) (overfills w.program there items) (at DoublePut i (Put pool k) n) (puts pool n) in
-      let first = or_parts (list_any (is_too_many w.program there) items.shares || list_any (is_there there) items.tokens) (nat_lt w.program.completion_entries (there Credit + items.credits)) room in
-      let both = or_parts (list_any (is_too_many w.program there) items.shares) (list_any (is_there there) items.tokens) first.0 in
+      let share_fits : Share → Bool = λ s. fits w.program there items (ShareOf s.buffer) in
+      let token_fits : ℕ → Bool = λ u. fits w.program there items (TokenOf u) in
+      let all = and_parts (list_all share_fits items.shares && list_all token_fits items.tokens) (fits w.program there items Credit) (not-false _ room) in
+      let both = and_parts (list_all share_fits items.shares) (list_all token_fits items.tokens) all.0 in
+      let one : (j : ℕ) → j < length items.tokens → there (TokenOf (get_or items.tokens j 0)) + bag_of items (TokenOf (get_or items.tokens j 0)) ≤ 1 = λ j lt. leb-true _ _ (all_at token_fits items.tokens j 0 both.1 lt) in
       record {
-        shares = All-from_get_or (λ (s : Share). there (ShareOf s.buffer) + s.count ≤ shares_at w.program.buffers s.buffer) items.shares no_share (λ j lt. ltb-false _ _ (none_in (is_too_many w.program there) items.shares j no_share both.0 lt));
-        tokens = All-from_get_or (λ u. there (TokenOf u) ≡ 0) items.tokens 0 (λ j lt. below_one _ (leb-false _ _ (none_in (is_there there) items.tokens j 0 both.1 lt)));
-        credits = ltb-false _ _ first.1;
+        shares = All-from_get_or (λ (s : Share). there (ShareOf s.buffer) + bag_of items (ShareOf s.buffer) ≤ shares_at w.program.buffers s.buffer) items.shares no_share (λ j lt. leb-true _ _ (all_at share_fits items.shares j no_share both.0 lt));
+        tokens = All-from_get_or (λ u. there (TokenOf u) ≡ 0) items.tokens 0 (λ j lt. omega (arith, one j lt, token_in items.tokens j lt));
+        once = All-from_get_or (λ u. bag_of items (TokenOf u) ≡ 1) items.tokens 0 (λ j lt. omega (arith, one j lt, token_in items.tokens j lt));
+        credits = leb-true _ _ all.1;
       }
     where
       puts : (pool : Option ℕ) → IsNext w i (Put pool k) → may_put w i pool ≡ true
       puts None n = and_from (has_sq w i) (has_cq w i) (under_sq i (Put None k) n tt) (under_cq i (Put None k) n tt)
       puts (Some j) n = refl
 
-      below_one : (n : ℕ) → n < 1 → n ≡ 0
-      below_one n lt = omega arith
+      token_in : (ts : List ℕ) (j : ℕ) → j < length ts → 1 ≤ bag_of (tokens_alone ts) (TokenOf (get_or ts j 0))
+      token_in ts j lt = omega (arith, tokens_more_le ts j (TokenOf (get_or ts j 0)) lt, itself (get_or ts j 0) 1)
 
 -- of each world of a run of a safe program
 pub of_safe : (F : World → Type 0) → ((w : World) → fault_of w ≡ None → F w) → OfSafeWorlds F

@@ -9,9 +9,9 @@ use Rattle.rc_lang.specs.declared.lines.Test.TheVariants.{ReadyZero, SpaceAtLeas
 use Rattle.rc_lang.specs.declared.request.Kind.TheVariants.{Read, Write}
 use Rattle.rc_lang.specs.declared.request.Request.{Request}
 use Rattle.rc_lang.specs.declared.program.Share.{Share}
-use Rattle.rc_lang.specs.Program.{IsProgram, Items, Program, bytes_at, items_at, lines_of, lists_of, shares_at, stmt_at}
+use Rattle.rc_lang.specs.Program.{IsProgram, Items, Program, bytes_at, lines_of, shares_at, stmt_at}
 use Rattle.rc_rules.specs.Labellings.{Accepts}
-use Rattle.rc_split.specs.Bags.{ShareOf, TokenOf, Credit}
+use Rattle.rc_split.specs.Bags.{ShareOf, TokenOf, Credit, bag_of}
 use Rattle.rc_split.specs.Pools.{Pools, all_pooled}
 use Rattle.rc_world.specs.declared.controls.Look.{Look}
 use Rattle.rc_world.specs.declared.controls.Look.TheVariants.{Unseen, Peeked, Got}
@@ -19,7 +19,7 @@ use Rattle.rc_world.specs.declared.event.Completion.{Completion}
 use Rattle.rc_world.specs.declared.event.Event.{Event}
 use Rattle.rc_world.specs.declared.world.Slot.{Slot}
 use Rattle.rc_world.specs.declared.world.Slot.TheVariants.{Closed, Vacant, Prepared}
-use Rattle.rc_world.specs.Controls.{next_line}
+use Rattle.rc_world.specs.Controls.{list_here, next_line}
 use Rattle.rc_world.specs.Faults.{count_of}
 use Rattle.rc_world.specs.Machine.{Pending, World, start_world, thread_step}
 use Rattle.rc_world.specs.Runs.{IsRun, IsSafe}
@@ -218,13 +218,15 @@ NoneReapedTwice w = (i : ℕ) (op : Op) → IsReap op → IsNext w i (Do op) →
 
 -- ---- the pools
 
--- None of the items is in a pool already: no token that they name is there, the shares of a buffer that are there and
--- theirs are together no more than it has, and the credits no more than the completion ring has entries.
+-- None of the items is in a pool already: no token that they name is there, and they name it once, the shares of a
+-- buffer that are there and theirs are together no more than it has, and the credits no more than the completion ring has
+-- entries.
 pub record IsNotThere (P : Program) (pools : Pools) (items : Items) : Type 0 where
-  pub shares : All (λ (s : Share). all_pooled P pools (ShareOf s.buffer) + s.count ≤ shares_at P.buffers s.buffer) items.shares
+  pub shares : All (λ (s : Share). all_pooled P pools (ShareOf s.buffer) + bag_of items (ShareOf s.buffer) ≤ shares_at P.buffers s.buffer) items.shares
   pub tokens : All (λ u. all_pooled P pools (TokenOf u) ≡ 0) items.tokens
+  pub once : All (λ u. bag_of items (TokenOf u) ≡ 1) items.tokens
   pub credits : all_pooled P pools Credit + items.credits ≤ P.completion_entries
 
 -- Nothing is put that is there, in whatever pool.
 abbrev pub NothingPutTwice : World → Type 0
-NothingPutTwice w = (i k : ℕ) (pool : Option ℕ) → IsNext w i (Put pool k) → IsNotThere w.program w.controls.pools (items_at (lists_of w.program i) k)
+NothingPutTwice w = (i k : ℕ) (pool : Option ℕ) → IsNext w i (Put pool k) → IsNotThere w.program w.controls.pools (list_here w.program w.controls i k)

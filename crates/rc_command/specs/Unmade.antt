@@ -1,5 +1,5 @@
 -- The calls of a program that no log makes, and what is printed of them.
-use Rattle.std.specs.Prelude.{ℕ, Bool, not, ◌&&◌, List, [], ◌∷◌, ◌++◌, codes, decimal, map, slice_index_or, true, false}
+use Rattle.std.specs.Prelude.{ℕ, Bool, not, ◌&&◌, List, [], ◌∷◌, ◌++◌, codes, decimal, map, slice_index_or, true, false, if◌then◌else◌}
 use Rattle.std.specs.List.{filter, flat_map}
 use Rattle.serde_json.specs.Data.{Data, array, member, no_members, number as json_number, object, string, unsigned}
 use Rattle.serde_json.specs.View.{items_of}
@@ -9,7 +9,7 @@ use Rattle.rc_lang.specs.declared.lines.Op.{Op}
 use Rattle.rc_lang.specs.declared.lines.Op.TheVariants as op
 use Rattle.rc_lang.specs.declared.lines.Stmt.{Stmt}
 use Rattle.rc_lang.specs.declared.lines.Stmt.TheVariants as stmt
-use Rattle.rc_lang.specs.Program.{Program, Thread}
+use Rattle.rc_lang.specs.Program.{Program, Thread, is_further}
 use Rattle.rc_report.specs.Printed.{joined}
 use Rattle.rc_report.specs.Shown.{shown}
 
@@ -43,9 +43,13 @@ is_unmade reached line = not (is_empty (call_word line.stmt)) && not (slice_inde
 abbrev pub unmade_in : List Bool → List Line → List Line
 unmade_in reached lines = filter (is_unmade reached) lines
 
+-- Copies have the lines of the first.
+abbrev pub unmade_of : List Bool → Thread → List Line
+unmade_of reached t = if is_further t.copy then [] else unmade_in reached t.lines
+
 -- in the order of the program
 abbrev pub unmade : Program → List Bool → List Line
-unmade P reached = flat_map (λ (t : Thread). unmade_in reached t.lines) P.threads
+unmade P reached = flat_map (unmade_of reached) P.threads
 
 -- ---- as text: a line for each; as JSON: one object, without spaces, as it is shown, and with a line feed
 

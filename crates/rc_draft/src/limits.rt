@@ -16,7 +16,7 @@ pub fn note_limits(
     note_counts(alloc, notes, replayed, drawn)?;
     note_numbers(alloc, notes, replayed)?;
     for thread in &replayed.threads {
-        note_name(notes, b"thread ", &thread.name)?;
+        note_thread(notes, &thread.name)?;
     }
     for buffer in &replayed.buffers {
         note_name(notes, b"buffer ", &buffer.name)?;
@@ -149,6 +149,15 @@ fn note_number(
 ) -> Result<(), AllocError> {
     let number = decimal(alloc, number as usize)?;
     note(notes, &[before, &number, after])
+}
+
+// Notes a thread's name that no draft has.
+fn note_thread(notes: &mut Vec<Vec<u8>>, name: &[u8]) -> Result<(), AllocError> {
+    if name.contains(&b'[') {
+        let why: &[u8] = b": a draft has no copies of threads; log it by RINGCHECK_THREAD";
+        return note(notes, &[b"thread ", name, why]);
+    }
+    note_name(notes, b"thread ", name)
 }
 
 // Notes a name that no model has.

@@ -53,6 +53,8 @@ fn part_word(part: Part) -> &'static [u8] {
         Part::Pool => b"P",
         Part::Token | Part::NewToken => b"U",
         Part::NewBuffer | Part::NewPool | Part::NewThread => b"NAME",
+        Part::NewThreads => b"NAME[N]",
+        Part::Copies => b"N",
         Part::Items => b"ITEMS",
         Part::Kinds => b"KIND or KIND ..",
         Part::KindWord => b"KIND",
@@ -116,7 +118,12 @@ pub fn meaning_of(row: Row) -> &'static str {
             "the user data of a request of one of up to four kinds, as of a read and then a write"
         }
         Row::Pool => "a table that threads put items into and take them from",
+        Row::PoolStock => {
+            "a table that threads put items into and take them from, and what is in it at the start"
+        }
+        Row::UnnamedStock => "what is at the start in the pool without a name",
         Row::Thread => "a thread, and what it holds at its start",
+        Row::Threads => "N threads that run the same lines, and what each holds at its start",
         Row::Set => "sets a variable",
         Row::Add => "the sum, 64 bits, wrapping",
         Row::Subtract => "the difference, 64 bits, wrapping",

@@ -2,6 +2,7 @@
 
 use crate::words::{Word, Words};
 use rc_hints::fitting::{forms_of, items_in_front, reach_of};
+use rc_lang::names::cut_at_bracket;
 use rc_read::kinds::part_after;
 use rc_read::parts::Region;
 use rc_read::spots::put_spots;
@@ -99,7 +100,7 @@ fn kind_of(part: Part) -> Option<(Kind, bool)> {
         Part::NewBuffer => Some((Kind::Buffer, true)),
         Part::NewToken => Some((Kind::Token, true)),
         Part::NewPool => Some((Kind::Pool, true)),
-        Part::NewThread => Some((Kind::Thread, true)),
+        Part::NewThread | Part::NewThreads => Some((Kind::Thread, true)),
         _ => None,
     }
 }
@@ -126,6 +127,14 @@ fn is_number(word: &[u8]) -> bool {
     }
 }
 
+/// The name in a word: what is before its bracket, if it has one.
+fn name_in<'a>(word: Word<'a>) -> Word<'a> {
+    Word {
+        text: cut_at_bracket(word.text).0,
+        start: word.start,
+    }
+}
+
 /// Adds the name that is in the place of a part.
 fn push_part<'a>(
     marks: &mut Vec<Mark<'a>>,
@@ -145,7 +154,7 @@ fn push_part<'a>(
         kind,
         scope: if is_variable { here.scope } else { 0 },
         line: here.line,
-        name: word,
+        name: name_in(word),
         around: word,
         declares,
         writes: declares || is_variable && gives,

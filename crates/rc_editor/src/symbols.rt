@@ -80,7 +80,7 @@ fn kind_of(mark: &Mark) -> Option<SymbolKind> {
 /// What a block is, if it is shown, and how many words are its name.
 fn shown(block: &Block) -> Option<(SymbolKind, usize)> {
     match block.row? {
-        Row::Thread => Some((SymbolKind::Thread, 2)),
+        Row::Thread | Row::Threads => Some((SymbolKind::Thread, 2)),
         Row::Loop | Row::LoopWhen => Some((SymbolKind::Loop, 1)),
         Row::Lock | Row::LockSq | Row::LockCq => Some((SymbolKind::Lock, 2)),
         Row::Peek => Some((SymbolKind::Peek, 2)),

@@ -1,9 +1,9 @@
 //! A whole program in C.
 
 use crate::declared::{put_declared, put_open_lock};
-use crate::fixed::{BEGINNING, CALLS, END, FILES_OPENED, LOG, RING_LOCK, SIDE_LOCKS};
+use crate::fixed::{BEGINNING, CALLS, END, FILES_OPENED, LOG, RING_LOCK, SIDE_LOCKS, STARTED};
 use crate::locks::Guards;
-use crate::threads::put_threads;
+use crate::threads::{has_copies, put_threads};
 use rc_lang::program::Program;
 use rc_read::source::Lines;
 use rc_text::text::{put_piece, put_pieces};
@@ -35,7 +35,12 @@ fn put_program(text: &mut Vec<u8>, program: &Program, lines: &Lines) -> Result<(
 fn put_end(text: &mut Vec<u8>, program: &Program, guards: Guards) -> Result<(), AllocError> {
     put_piece(text, FILES_OPENED.as_bytes())?;
     put_open_lock(text, program, guards)?;
-    put_piece(text, END.as_bytes())
+    let given: &[u8] = if has_copies(program) {
+        b"&numbers[at]"
+    } else {
+        b"NULL"
+    };
+    put_pieces(text, &[END.as_bytes(), given, STARTED.as_bytes()])
 }
 
 // The ring, and its mutexes.

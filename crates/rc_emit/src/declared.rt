@@ -4,9 +4,9 @@ use crate::fixed::{LOCK_OPENED, MUTEX_OPENED};
 use crate::locks::Guards;
 use crate::terms::{data, number};
 use rc_lang::lines::{Stmt, Test};
-use rc_lang::program::{Program, Thread, Token, TokenKind};
+use rc_lang::program::{Items, Program, Thread, Token, TokenKind};
 use rc_text::names::buffer_name;
-use rc_text::text::{put_piece, put_pieces};
+use rc_text::text::{put_counted, put_piece, put_pieces};
 use std::alloc::AllocError;
 
 // The calls that open the mutexes of both sides.
@@ -120,20 +120,57 @@ fn put_pool(text: &mut Vec<u8>, program: &Program) -> Result<(), AllocError> {
         return Ok(());
     }
     put_piece(text, POOL.as_bytes())?;
-    put_counters(text, program, b"unsigned pool_")
+    put_counters(text, program, b"unsigned pool_", stock_of(program, None))
 }
 
-/// Adds a counter for each part, with this before its name.
-fn put_counters(text: &mut Vec<u8>, program: &Program, before: &[u8]) -> Result<(), AllocError> {
+/// What a pool has at the start, if a line says that.
+fn stock_of(program: &Program, pool: Option<usize>) -> Option<&Items> {
+    for stock in program.stock() {
+        if stock.pool == pool {
+            return Some(&stock.items);
+        }
+    }
+    None
+}
+
+/// How many shares of a buffer these items name.
+fn shares_in(items: &Items, buffer: usize) -> u32 {
+    for share in &items.shares {
+        if share.buffer == buffer {
+            return share.count;
+        }
+    }
+    0
+}
+
+/// Adds a counter for each part, with this before its name, that begins with as many as these items name.
+fn put_counters(
+    text: &mut Vec<u8>,
+    program: &Program,
+    before: &[u8],
+    stock: Option<&Items>,
+) -> Result<(), AllocError> {
     let alloc = *text.allocator();
-    for buffer in program.buffers() {
-        put_pieces(text, &[before, b"buffer_", &buffer.name, b";\n"])?;
+    for (place, buffer) in program.buffers().iter().enumerate() {
+        put_pieces(text, &[before, b"buffer_", &buffer.name])?;
+        put_beginning(text, stock.map_or(0, |items| shares_in(items, place)))?;
     }
     for token in program.tokens() {
-        let token = number(alloc, token.user_data)?;
-        put_pieces(text, &[before, b"token_", &token, b";\n"])?;
+        let name = number(alloc, token.user_data)?;
+        put_pieces(text, &[before, b"token_", &name])?;
+        let is_there = stock.is_some_and(|items| items.tokens.contains(&token.user_data));
+        put_beginning(text, u32::from(is_there))?;
     }
-    put_pieces(text, &[before, b"credits;\n"])
+    put_pieces(text, &[before, b"credits"])?;
+    put_beginning(text, stock.map_or(0, |items| items.credits))
+}
+
+/// Adds the number that a counter begins with, unless that is 0, and ends its line.
+fn put_beginning(text: &mut Vec<u8>, count: u32) -> Result<(), AllocError> {
+    if count > 0 {
+        put_counted(text, b" = ", u64::from(count), b"")?;
+    }
+    put_piece(text, b";\n")
 }
 
 /// Adds the pools with a name.
@@ -142,9 +179,32 @@ fn put_tables(text: &mut Vec<u8>, program: &Program) -> Result<(), AllocError> {
         return Ok(());
     }
     put_piece(text, TABLES.as_bytes())?;
-    put_counters(text, program, b"    unsigned ")?;
+    put_counters(text, program, b"    unsigned ", None)?;
     put_piece(text, b"};\n")?;
-    put_each_table(text, program, b"static struct table ", b";\n")
+    for (pool, name) in program.pools().iter().enumerate() {
+        put_pieces(text, &[b"static struct table table_", name])?;
+        if let Some(items) = stock_of(program, Some(pool)) {
+            put_stock(text, program, items)?;
+        }
+        put_piece(text, b";\n")?;
+    }
+    Ok(())
+}
+
+/// Adds what a table begins with. Each other counter of it begins with 0.
+fn put_stock(text: &mut Vec<u8>, program: &Program, items: &Items) -> Result<(), AllocError> {
+    let alloc = *text.allocator();
+    put_piece(text, b" = {\n")?;
+    for share in &items.shares {
+        let name = buffer_name(program, share.buffer);
+        put_pieces(text, &[b"    .buffer_", name])?;
+        put_counted(text, b" = ", u64::from(share.count), b",\n")?;
+    }
+    for token in &items.tokens {
+        let token = number(alloc, *token)?;
+        put_pieces(text, &[b"    .token_", &token, b" = 1,\n"])?;
+    }
+    put_counted(text, b"    .credits = ", u64::from(items.credits), b",\n}")
 }
 
 /// Adds the name of each pool that has one, between two pieces.

@@ -147,6 +147,15 @@ __attribute__((unused)) static void log_completions(void)
 #endif
 ";
 
+/// What writes the events of threads with copies, where some have: the copy's number comes first.
+pub const COPY_LOG: &str = "
+#ifdef RINGCHECK_LOG
+#define COPY_EVENT(words, ...) log_event(words, copy, ##__VA_ARGS__)
+#else
+#define COPY_EVENT(...) ((void)0)
+#endif
+";
+
 /// How the function of a thread begins, after its name, and how it ends.
 pub const THREAD_BEGINNING: &str = "(void *nothing)
 {
@@ -160,6 +169,20 @@ pub const THREAD_BODY: &str = "
     (void)nothing, (void)sqe, (void)cqe, (void)answer, (void)yes;
 ";
 
+/// The same of a thread with copies, which is given its number.
+pub const COPY_BEGINNING: &str = "(void *number)
+{
+    const unsigned copy = *(const unsigned *)number;
+    struct io_uring_sqe *sqe = NULL;
+    struct io_uring_cqe *cqe = NULL;
+    int answer = 0;
+    bool yes = false;
+";
+
+pub const COPY_BODY: &str = "
+    (void)copy, (void)sqe, (void)cqe, (void)answer, (void)yes;
+";
+
 pub const THREAD_END: &str = "    return NULL;
 }
 ";
@@ -168,6 +191,12 @@ pub const THREAD_END: &str = "    return NULL;
 pub const THREADS: &str = "
 /* The threads, in text order. */
 static void *(*const bodies[])(void *) = {
+";
+
+/// How the list of their numbers begins, where some are copies.
+pub const NUMBERS: &str = "
+/* The number of each among the copies of its line. */
+static unsigned numbers[] = {
 ";
 
 /// What opens the files.
@@ -262,7 +291,7 @@ static void open_lock(void)
 {
 ";
 
-/// The end of a program: what opens the ring, and starts the threads.
+/// The end of a program: what opens the ring, and starts the threads, up to what they are given.
 pub const END: &str = "\
 static void open_ring(void)
 {
@@ -305,7 +334,10 @@ int main(int count, char **words)
     open_lock();
     open_ring();
     for (at = 0; bodies[at] != NULL; at++) {
-        error = pthread_create(&threads[at], NULL, bodies[at], NULL);
+        error = pthread_create(&threads[at], NULL, bodies[at], ";
+
+/// What is after that.
+pub const STARTED: &str = ");
         if (error != 0)
             fail(\"pthread_create\", error);
     }

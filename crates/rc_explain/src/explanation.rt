@@ -13,7 +13,7 @@ use rc_report::check_engine::verdict_of;
 use rc_report::source::Lines;
 use rc_report::verdict::{Refusal, Verdict};
 use rc_sentences::causes::advice_on_read;
-use rc_sentences::line_at::{LineAt, line_at};
+use rc_sentences::line_at::{Begins, LineAt, line_at, stock_at};
 use rc_sentences::notes::{Note, notes_on};
 use rc_sentences::sentences::{Sentences, sentences_on_header, sentences_on_line};
 use rc_sentences::walked::{Refused, Walked, walk};
@@ -51,7 +51,7 @@ pub struct Reason<'a> {
     pub sentences: Sentences,
     /// Where in the line it is.
     pub span: Span,
-    /// The name of the thread of a refused line.
+    /// The name of the thread of a refused line, unless that is the line of a pool.
     pub thread: Option<&'a [u8]>,
 }
 
@@ -129,14 +129,16 @@ fn of_accepted<'a>(
     })
 }
 
-/// The threads of a program with lower numbers than this one.
+/// The threads of a program with lower numbers than this one; of copies the first.
 fn walked_up_to(alloc: Global, program: &Program, count: u32) -> Result<Vec<Walked<'_>>, AllocError>
     requires { count ≤ length program.now.threads }
 {
     let mut threads = Vec::new(alloc);
     for number in 0..count {
-        let walked = walk(alloc, program, number)?;
-        threads.push(walked)?;
+        if !program.threads()[number as usize].is_further() {
+            let walked = walk(alloc, program, number)?;
+            threads.push(walked)?;
+        }
     }
     Ok(threads)
 }
@@ -160,7 +162,14 @@ fn of_refused<'a>(
         known.reason = Some(Reason {
             sentences,
             span: span_of_words(lines.line(refusal.line)),
-            thread: Some(&program.threads()[at.thread as usize].name),
+            thread: Some(program.threads()[at.thread as usize].declared_name()),
+        });
+    } else if let Some(line) = stock_at(program, refusal.line) {
+        let sentences = sentences_on_header(alloc, program, Begins::Pool(line), refusal.cause)?;
+        known.reason = Some(Reason {
+            sentences,
+            span: span_of_words(lines.line(refusal.line)),
+            thread: None,
         });
     }
     Ok(known)
@@ -178,7 +187,7 @@ fn sentences_at<'a>(
     requires { at.thread < length program.now.threads }
 {
     let Some(place) = at.place else {
-        return sentences_on_header(alloc, program, at.thread, refusal.cause);
+        return sentences_on_header(alloc, program, Begins::Thread(at.thread), refusal.cause);
     };
     let walked = walk(alloc, program, at.thread)?;
     let refused = Refused {

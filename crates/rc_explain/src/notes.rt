@@ -92,7 +92,9 @@ fn push_all_unreached(
     requires { accepted.count ≤ length accepted.program.now.threads }
 {
     for number in 0..accepted.count {
-        push_unreached(alloc, notes, accepted.program, number)?;
+        if !accepted.program.threads()[number as usize].is_further() {
+            push_unreached(alloc, notes, accepted.program, number)?;
+        }
     }
     Ok(())
 }

@@ -247,7 +247,7 @@ fn push_thread(
             push_line(alloc, &mut lines, number, state)?;
         }
     }
-    let name = string_of(alloc, &walked.thread.name)?;
+    let name = string_of(alloc, walked.thread.declared_name())?;
     let thread = json!(in alloc; {"lines": lines, "name": name})?;
     Ok(threads.push(thread)?)
 }
@@ -279,7 +279,7 @@ fn push_side(
         return Ok(());
     }
     let mut text = Vec::new(alloc);
-    put_state(&mut text, side.program(), side)?;
+    put_state(&mut text, side.view().program, side)?;
     let before = string_of(alloc, &text)?;
     let line = match flag {
         Some(flag) => json!(in alloc; {"before": before, "flag": flag, "line": number})?,

@@ -98,7 +98,7 @@ fn put_thread(
     lines: &Lines<'_>,
     walked: &Walked<'_>,
 ) -> Result<(), AllocError> {
-    put_pieces(text, &[b"thread ", &walked.thread.name, b"\n"])?;
+    put_pieces(text, &[b"thread ", walked.thread.declared_name(), b"\n"])?;
     if walked.thread.lines.is_empty() {
         return put_piece(text, b"  no lines\n");
     }
@@ -154,6 +154,6 @@ fn put_side(
     put_counted(text, b"  line ", u64::from(number), b", ")?;
     put_line_words(text, lines, number)?;
     put_piece(text, flag)?;
-    put_state(text, side.program(), side)?;
+    put_state(text, side.view().program, side)?;
     put_piece(text, b"\n")
 }

@@ -1,7 +1,8 @@
 -- What the strongest labels at a place say of shares.
-use Rattle.std.proofs.Common.{◌≡◌, ◌≤◌, ℕ, Bool, true, false, refl, sym, subst, ◌∙◌, arith}
+use Rattle.std.proofs.Common.{◌≡◌, ◌≤◌, ℕ, Bool, true, false, refl, ap, sym, subst, ◌∙◌, arith}
 use mathlib.Core.Bool.{beq}
 use Rattle.rc_lang.specs.Program.{Program}
+use Rattle.rc_lang.specs.Views.{view_of}
 use Rattle.rc_rules.specs.Labels.{Label}
 use Rattle.rc_rules.specs.Sides.{on}
 use Rattle.rc_rules.specs.States.{State, held_at, label_of, sides_of}
@@ -10,10 +11,12 @@ use Rattle.rc_follow.specs.declared.rights.Held.{Held}
 use Rattle.rc_follow.specs.declared.rights.Spot.{Spot}
 use Rattle.rc_follow.specs.Rights.{SharesAt}
 use Rattle.rc_follow.specs.RightsKnown.{IsHeld, IsHeldAt}
-use Rattle.rc_verify.specs.Labels.{HasStrongest, IsStrongestAt, Labels}
+use Rattle.rc_verify.specs.Labels.{HasStrongest, IsStrongestAt, Labels, named_in}
 
-pub strongest_here : (P : Program) (l : Labels) (j : ℕ) → l.program ≡ P → l.place ≡ j → HasStrongest l → IsStrongestAt P l.thread j (sides_of l.state)
-strongest_here P l j e f h = subst (λ (Q : Program). IsStrongestAt Q l.thread j (sides_of l.state)) e (subst (λ (k : ℕ). IsStrongestAt l.program l.thread k (sides_of l.state)) f h)
+pub strongest_here : (P : Program) (i : ℕ) (l : Labels) (j : ℕ) → l.program ≡ P → l.number ≡ i → l.place ≡ j → HasStrongest l → IsStrongestAt (view_of P i) l.thread j (sides_of l.state)
+strongest_here P i l j e n f h =
+    let named : named_in l ≡ view_of P i = ap (λ (Q : Program). view_of Q l.number) e ∙ ap (λ (k : ℕ). view_of P k) n in
+    subst (λ (Q : Program). IsStrongestAt Q l.thread j (sides_of l.state)) named (subst (λ (k : ℕ). IsStrongestAt (named_in l) l.thread k (sides_of l.state)) f h)
 
 on_sides : (s : State) (z : Bool) → on z (sides_of s) ≡ label_of s z
 on_sides s true = refl

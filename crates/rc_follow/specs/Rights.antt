@@ -2,6 +2,7 @@
 use Rattle.std.specs.Prelude.{ℕ, ◌≡◌, ◌≤◌, Bool, true, List, Option, Some, None, slice_get, slice_index_or, ℤ, pos}
 use Rattle.std.specs.Ordering.{int_eq}
 use Rattle.rc_lang.specs.Program.{Program, Thread}
+use Rattle.rc_lang.specs.Views.{view_of}
 use Rattle.rc_rules.specs.Sides.{Sides, on}
 use Rattle.rc_rules.specs.States.{held_at}
 use Rattle.rc_split.specs.Bags.{ShareOf}
@@ -23,8 +24,8 @@ abbrev pub HasShares : Program → World → (i b k : ℕ) → Type 0
 HasShares P w i b k =
     (t : Standing) × (slice_get w.controls.threads i ≡ Some t)
     × (thread : Thread) × (slice_get P.threads i ≡ Some thread)
-    × HoldsAt P thread t.place (flag_is_zero thread.flag t.variables) b k
+    × HoldsAt (view_of P i) thread t.place (flag_is_zero thread.flag t.variables) b k
 
 -- the strongest labels there say so many shares of the buffer, or more
 abbrev pub SharesAt : Program → (i place : ℕ) → (zero : Bool) → (buffer k : ℕ) → Type 0
-SharesAt P i place zero b k = (thread : Thread) × (slice_get P.threads i ≡ Some thread) × HoldsAt P thread place zero b k
+SharesAt P i place zero b k = (thread : Thread) × (slice_get P.threads i ≡ Some thread) × HoldsAt (view_of P i) thread place zero b k

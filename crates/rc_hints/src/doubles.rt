@@ -8,7 +8,7 @@ use crate::wording::put_framed;
 use rc_read::parts::Parts;
 use rc_read::table::Part;
 use rc_read::words::is;
-use rc_text::text::{put_piece, put_pieces};
+use rc_text::text::{put_counted, put_piece, put_pieces};
 use std::alloc::AllocError;
 
 /// What a place declares that is declared already.
@@ -101,6 +101,27 @@ fn put_again(hint: &mut Hint, line: &[u8], place: &Place, item: &[u8]) -> Result
     put_framed(text, b"'", name, b"' again")
 }
 
+/// Whether a line says what the pool without a name has at the start, as one above it does.
+fn is_stock_again(parts: &Parts, words: &[&[u8]]) -> bool {
+    is(word_at(words, 0), b"pool")
+        && is(word_at(words, 1), b"holds")
+        && parts.stock.iter().any(|stock| stock.pool.is_none())
+}
+
+/// Adds that what the pool without a name has is said already, and at which line.
+fn put_stock_again(hint: &mut Hint, parts: &Parts, line: &[u8]) -> Result<(), AllocError> {
+    hint.column = Some(column_of(line, 1));
+    let text = &mut hint.words;
+    put_piece(
+        text,
+        b"what the pool without a name holds is said above already",
+    )?;
+    match parts.stock.iter().find(|stock| stock.pool.is_none()) {
+        Some(stock) => put_counted(text, b", at line ", u64::from(stock.line), b""),
+        None => Ok(()),
+    }
+}
+
 /// Adds that what a place declares is declared already.
 fn put_known(hint: &mut Hint, line: &[u8], place: Place, kind: Kind) -> Result<(), AllocError> {
     hint.column = Some(column_at(line, place));
@@ -121,6 +142,9 @@ pub fn put_double_name(
         if let Some(kind) = known_at(parts, *place) {
             return put_known(hint, line, *place, kind);
         }
+    }
+    if is_stock_again(parts, words) {
+        return put_stock_again(hint, parts, line);
     }
     for i in 0..places.len() {
         let (before, place) = (&places[..i], &places[i]);

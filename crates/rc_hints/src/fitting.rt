@@ -1,6 +1,7 @@
 //! How far the words of a line fit a form.
 
 use crate::lines::{between, from, place_of};
+use rc_lang::names::cut_at_bracket;
 use rc_read::kinds::part_after;
 use rc_read::parts::Region;
 use rc_read::reserved::is_reserved_by;
@@ -54,9 +55,18 @@ pub fn is_reserved(version: u32, word: &[u8]) -> bool {
     is_spelt(word) && (is_reserved_by(version, word) || !is_name(word))
 }
 
+/// The name in a word that is in the place of a part, if it has one.
+fn name_in(part: Part, word: &[u8]) -> Option<&[u8]> {
+    match part {
+        Part::NewThreads => Some(cut_at_bracket(word).0),
+        part => has_name(part).then_some(word),
+    }
+}
+
 /// Whether a word is in the place of a part in this version.
 fn is_in(version: u32, part: Part, word: &[u8]) -> bool {
-    fits(part, word) && !(has_name(part) && is_reserved_by(version, word))
+    let reserved = name_in(part, word).is_some_and(|name| is_reserved_by(version, name));
+    fits(part, word) && !reserved
 }
 
 /// Whether a word is an item in this version.

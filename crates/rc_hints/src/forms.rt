@@ -42,6 +42,7 @@ fn choice_of(next: Option<Part>) -> Choice {
         Part::Variable | Part::Flag => named(b"a variable"),
         Part::Buffer | Part::NewBuffer | Part::NewThread => named(b"a name"),
         Part::ReadBuffer => named(b"a name"),
+        Part::NewThreads => named(b"a name and '[N]'"),
         Part::Pool | Part::NewPool => named(b"a name"),
         Part::Operand => named(b"a variable or a number"),
         Part::Comparison => named(b"a comparison"),

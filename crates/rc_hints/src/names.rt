@@ -36,9 +36,9 @@ pub fn has_pool(parts: &Parts, word: &[u8]) -> bool {
     parts.pools.iter().any(|name| is(name, word))
 }
 
-/// Whether the thread with this name is above, or is the open one. Where none is open the draft has no name.
+/// Whether a thread with this name, or copies of one, are above, or are open. Where none is open the draft has no name.
 pub fn has_thread(parts: &Parts, word: &[u8]) -> bool {
-    is(&parts.draft.name, word) || parts.threads.iter().any(|t| is(&t.name, word))
+    is(&parts.draft.name, word) || parts.threads.iter().any(|t| is(t.declared_name(), word))
 }
 
 /// Adds what is before the name with this place in a list, and says whether the name is shown.

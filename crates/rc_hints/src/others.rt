@@ -147,6 +147,16 @@ fn put_of(text: &mut Vec<u8>, count: usize, most: u64, what: &[u8]) -> Result<()
     put_number(text, most)
 }
 
+/// Adds how many threads are above, and how many there may be: from version 5 on copies count.
+fn put_threads(text: &mut Vec<u8>, parts: &Parts) -> Result<(), AllocError> {
+    let count = parts.threads.len();
+    if parts.head.version < 5 {
+        return put_of(text, count, 16, b"threads");
+    }
+    put_of(text, count, 64, b"threads")?;
+    put_piece(text, b", with all copies")
+}
+
 /// Whether a line opens a block.
 fn opens(words: &[&[u8]]) -> bool {
     match words {
@@ -177,7 +187,7 @@ pub fn put_too_large(
     } else if is(first, b"token") {
         put_of(text, parts.tokens.len(), 256, b"tokens")
     } else if is(first, b"thread") {
-        put_of(text, parts.threads.len(), 16, b"threads")
+        put_threads(text, parts)
     } else if parts.draft.blocks.len() >= 31 && opens(words) {
         put_piece(
             text,
@@ -239,7 +249,7 @@ pub fn put_nesting(text: &mut Vec<u8>, parts: &Parts, words: &[&[u8]]) -> Result
     if has_two_locks(parts) && is(first, b"lock") && put_inner(text, parts, words)? {
         return Ok(());
     }
-    if is(first, b"put") || is(first, b"if") {
+    if is(first, b"put") || is(first, b"if") || is(first, b"pool") {
         put_framed(text, b"'", first, b"': 'q:' may not be there")
     } else if is(first, b"thread") {
         put_framed(text, b"'", first, b"': 'q:' may only be in ")?;

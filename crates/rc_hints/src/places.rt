@@ -21,8 +21,23 @@ pub fn column_at(line: &[u8], place: Place) -> usize {
     column_of(line, place.at).saturating_add(place.offset)
 }
 
-/// Adds the places of a word, from this spot on: of a share those of its name and its number, and else one. Answers which
-/// spot is the next.
+/// Whether a name is at the beginning of a word that goes on: that of a share, or of a thread with copies.
+fn begins(spot: Spot, word: &[u8]) -> bool {
+    let is_name = matches!(spot.part, Part::Buffer | Part::NewThread);
+    is_name && spot.word.len() < word.len()
+}
+
+/// Where in its word the word of a spot begins: a number is at the end, but for a bracket.
+fn offset_of(spot: Spot, word: &[u8]) -> usize {
+    let before = word.len().saturating_sub(spot.word.len());
+    match spot.part {
+        Part::Copies => before.saturating_sub(1),
+        _ => before,
+    }
+}
+
+/// Adds the places of a word, from this spot on: of a share those of its name and its number, as of copies, and else one.
+/// Answers which spot is the next.
 fn push_word<'a>(
     places: &mut Vec<Place<'a>>,
     spots: &[Spot<'a>],
@@ -32,15 +47,14 @@ fn push_word<'a>(
 ) -> Result<usize, AllocError> {
     for i in first..spots.len() {
         let spot = spots[i];
-        let before = word.len().saturating_sub(spot.word.len());
-        let is_name = before > 0 && matches!(spot.part, Part::Buffer);
+        let begins = begins(spot, word);
         places.push(Place {
             part: spot.part,
             word: spot.word,
             at,
-            offset: if is_name { 0 } else { before },
+            offset: if begins { 0 } else { offset_of(spot, word) },
         })?;
-        if !is_name {
+        if !begins {
             return Ok(i + 1);
         }
     }

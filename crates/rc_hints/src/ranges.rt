@@ -73,6 +73,7 @@ fn range_of(parts: &Parts, seen: Seen, part: Part) -> Option<(u64, u64)> {
         Part::File | Part::NewFile => Some((0, 1023)),
         Part::Token | Part::NewToken | Part::HeldToken => Some((0, u64::MAX)),
         Part::HeldShares => Some((1, 16)),
+        Part::Copies => Some((1, 64)),
         Part::WriteShares => Some((1, u64::from(seen.shares))),
         Part::Credits => Some((0, 2048)),
         Part::Queued => Some((0, u64::from(parts.head.entries))),
@@ -104,6 +105,7 @@ pub fn thing_of(part: Part) -> &'static [u8] {
         Part::Token | Part::NewToken | Part::HeldToken => b"user data",
         Part::HeldShares | Part::WriteShares => b"a number of shares",
         Part::Credits => b"a number of credits",
+        Part::Copies => b"a number of copies",
         Part::Queued => b"a number of entries",
         _ => b"a number",
     }

@@ -7,3 +7,5 @@ pub mod Numbers
 pub mod Parts
 pub mod Program
 pub mod Requests
+pub mod Views
+pub mod Rows

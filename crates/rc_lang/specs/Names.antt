@@ -1,6 +1,6 @@
 -- Which words are names.
-use Rattle.std.specs.Prelude.{ℕ, List, [], ◌∷◌, length, Bool, false, ◌&&◌, ◌||◌, not, ◌==◌, nat_lt, nat_le, codes}
-use Rattle.std.specs.List.{list_all}
+use Rattle.std.specs.Prelude.{ℕ, List, [], ◌∷◌, ◌++◌, length, drop, Option, Some, None, Bool, false, ◌&&◌, ◌||◌, not, ◌==◌, nat_lt, nat_le, codes, decimal}
+use Rattle.std.specs.List.{before_first, list_all, position_or_len}
 use Rattle.std.specs.Str.{bytes_eq}
 use Rattle.rc_lang.specs.Numbers.{is_digit}
 
@@ -61,3 +61,18 @@ is_spelt (b ∷ bytes) = is_lower b && all_name_bytes bytes && nat_lt (length by
 
 abbrev pub is_name : List ℕ → Bool
 is_name w = is_spelt w && not (is_reserved w)
+
+-- What is before the first bracket of a word, and what is from it on.
+abbrev pub is_bracket : ℕ → Bool
+is_bracket b = b == 91 || b == 93
+
+abbrev pub before_bracket : List ℕ → List ℕ
+before_bracket w = before_first is_bracket w
+
+abbrev pub from_bracket : List ℕ → List ℕ
+from_bracket w = drop (position_or_len is_bracket w) w
+
+-- A copy of a thread has its number after the name, in brackets.
+abbrev pub numbered : List ℕ → Option ℕ → List ℕ
+numbered name None = name
+numbered name (Some copy) = name ++ (codes "[" ++ decimal copy ++ codes "]")

@@ -1,5 +1,5 @@
 -- Programs, and what is kept by each that was made.
-use Rattle.std.specs.Prelude.{ℕ, ◌≡◌, ◌≢◌, ◌^◌, ◌<◌, ◌≤◌, ◌⊎◌, true, false, List, [], ◌∷◌, ◌++◌, length, map, flat_map, Option, Some, None, slice_get, slice_index, slice_index_or, nat_eq, position, All, Contains, IfSome}
+use Rattle.std.specs.Prelude.{ℕ, ◌≡◌, ◌≢◌, ◌+◌, ◌^◌, ◌<◌, ◌≤◌, ◌⊎◌, true, false, List, [], ◌∷◌, ◌++◌, Bool, nat_lt, drop, if◌then◌else◌, length, map, flat_map, Option, Some, None, slice_get, slice_index, slice_index_or, nat_eq, position, All, Contains, IfSome}
 use Rattle.std.specs.List.{IsDistinct}
 use Rattle.std.specs.List.Sorted.{IsStrictlyIncreasing}
 use Rattle.std.specs.Str.{bytes_eq}
@@ -18,9 +18,10 @@ use Rattle.rc_lang.specs.declared.program.Share.{Share}
 use Rattle.rc_lang.specs.declared.program.Token.{Token}
 use Rattle.rc_lang.specs.declared.program.TokenKind.{TokenKind}
 use Rattle.rc_lang.specs.declared.program.TokenKind.TheVariants.{Read, Write}
+use Rattle.rc_lang.specs.declared.rows.Named.{Named}
 use Rattle.rc_lang.specs.Kinds.{is_one_kind, kinds_in}
 use Rattle.rc_lang.specs.Locks.{both_locks, is_some_lock}
-use Rattle.rc_lang.specs.Names.{is_name}
+use Rattle.rc_lang.specs.Names.{before_bracket, is_name, numbered}
 use Rattle.rc_lang.specs.Nesting.{IsNested, blocks_at, locks_in}
 
 -- A buffer: its name, how many bytes it has, and into how many shares it is split.
@@ -44,12 +45,21 @@ pub record Items : Type 0 where
   pub queue : Option ℕ
   pub more : More
 
--- A thread: its name and the line of its header, what it holds as it begins, its lists of items (what it holds at the
+-- What the names in a thread's lines stand for: by the numbers by which they name buffers, the tokens as they name them,
+-- and what each of these stands for.
+pub record Rows : Type 0 where
+  pub buffers : List Named
+  pub tokens : List Token
+  pub members : List Named
+
+-- A thread: its name, its number where its line declares copies, the line of its header, what it holds as it begins,
+-- its lists of items (what it holds at the
 -- tops of its loops, and what it puts into pools and takes from them), its lines, for the lines that a jump starts from
--- the place that it leads to, the names of its variables by their numbers, and its flag: the one variable that a loop of
--- it names behind `when`, wherever in the thread that loop stands.
+-- the place that it leads to, the names of its variables by their numbers, its flag: the one variable that a loop of
+-- it names behind `when`, wherever in the thread that loop stands; and what the names in its lines stand for.
 pub record Thread : Type 0 where
   pub name : List ℕ
+  pub copy : Option ℕ
   pub line : ℕ
   pub items : Items
   pub lists : List Items
@@ -57,10 +67,18 @@ pub record Thread : Type 0 where
   pub ends : List ℕ
   pub variables : List (List ℕ)
   pub flag : Option ℕ
+  pub rows : Rows
+
+-- What a line says that a pool has at the start: the number of the pool, or none for the one without a name, and the
+-- number of the line.
+pub record Stock : Type 0 where
+  pub pool : Option ℕ
+  pub line : ℕ
+  pub items : Items
 
 -- A program: the version of the notation, how many entries its submission ring and its completion ring have
 -- (io_uring_setup(2)), how many entries may be left queued where the lock of the submission side is released, and its
--- declarations (of pools their names) and threads, in the order of their lines.
+-- declarations (of pools their names, and what they have at the start) and threads, in the order of their lines.
 pub record Program : Type 0 where
   pub version : ℕ
   pub entries : ℕ
@@ -70,6 +88,7 @@ pub record Program : Type 0 where
   pub buffers : List Buffer
   pub tokens : List Token
   pub pools : List (List ℕ)
+  pub stock : List Stock
   pub threads : List Thread
 
 -- ---- look-ups
@@ -101,6 +120,17 @@ lists_in (Some thread) = thread.lists
 abbrev pub lists_of : Program → ℕ → List Items
 lists_of program i = lists_in (slice_get program.threads i)
 
+-- the table of a thread
+abbrev pub no_rows : Rows
+no_rows = record { buffers = []; tokens = []; members = [] }
+
+abbrev pub rows_in : Option Thread → Rows
+rows_in None = no_rows
+rows_in (Some thread) = thread.rows
+
+abbrev pub rows_of : Program → ℕ → Rows
+rows_of program i = rows_in (slice_get program.threads i)
+
 abbrev pub ends_in : Option Thread → List ℕ
 ends_in None = []
 ends_in (Some thread) = thread.ends
@@ -109,6 +139,20 @@ ends_in (Some thread) = thread.ends
 -- the closing brace
 abbrev pub end_at : Program → ℕ → ℕ → ℕ
 end_at program i j = slice_index (ends_in (slice_get program.threads i)) j
+
+-- Of the threads that a line declares the first stands for the line, and the others are further copies.
+abbrev pub is_further : Option ℕ → Bool
+is_further None = false
+is_further (Some copy) = nat_lt 0 copy
+
+-- how many further copies these threads begin with
+abbrev pub further_copies : List Thread → ℕ
+further_copies [] = 0
+further_copies (t ∷ ts) = if is_further t.copy then further_copies ts + 1 else 0
+
+-- the number of the first thread behind those of a thread's line
+abbrev pub line_end : List Thread → ℕ → ℕ
+line_end threads i = i + 1 + further_copies (drop (i + 1) threads)
 
 -- nothing besides
 abbrev pub no_more : More
@@ -286,10 +330,14 @@ pub record IsFlag (program : Program) (thread : Thread) : Type 0 where
   pub version : program.version ≡ 1 → thread.flag ≡ None
   pub without : thread.flag ≡ None → All (λ (i : Items). i.more ≡ no_more) thread.lists
 
+-- The thread has a name, with its copy's number.
+abbrev pub IsThreadName : List ℕ → Option ℕ → Type 0
+IsThreadName name copy = (declared : List ℕ) × (is_name declared ≡ true) × (name ≡ numbered declared copy)
+
 -- A thread of a made program: at most 4,096 lines, with numbers from 1 to 4,096, and 64 variables. Its header says
--- neither how many entries may be queued nor what is held besides.
+-- neither how many entries may be queued nor what is held besides. Each name in its lines stands for itself.
 pub record IsThread (program : Program) (thread : Thread) : Type 0 where
-  pub name : is_name thread.name ≡ true
+  pub name : IsThreadName thread.name thread.copy
   pub line : (1 ≤ thread.line) × (thread.line ≤ 4096)
   pub items : IsItems program thread.items
   pub no_queue : thread.items.queue ≡ None
@@ -299,12 +347,24 @@ pub record IsThread (program : Program) (thread : Thread) : Type 0 where
   pub numbers : All (λ (l : Line). (1 ≤ l.number) × (l.number ≤ 4096)) thread.lines
   pub few_variables : length thread.variables ≤ 64
   pub flag : IsFlag program thread
+  pub rows : thread.rows ≡ no_rows
   pub nested : IsNested thread.lines
   pub resolved : (j : ℕ) (s : Stmt) → stmt_at thread.lines j ≡ Some s → IsResolved program (length thread.variables) (length thread.lists) s
   pub linked : (j : ℕ) (s : Stmt) → stmt_at thread.lines j ≡ Some s → IsLinked thread.lines thread.ends j s
   pub queues : (j k : ℕ) → stmt_at thread.lines j ≡ Some (Loop k) → MaySayQueue thread j k
   pub puts : (j : ℕ) (pool : Option ℕ) (k : ℕ) → stmt_at thread.lines j ≡ Some (Put pool k) → IsOfPool (items_at thread.lists k)
   pub takes : (j : ℕ) (pool : Option ℕ) (k : ℕ) → stmt_at thread.lines j ≡ Some (If (Take pool k)) → IsOfPool (items_at thread.lists k)
+
+-- What a pool has at the start is items of the program, as what is put into one.
+pub record IsStock (program : Program) (stock : Stock) : Type 0 where
+  pub pool : DeclaresPool program stock.pool
+  pub line : (1 ≤ stock.line) × (stock.line ≤ 4096)
+  pub items : IsItems program stock.items
+  pub of_pool : IsOfPool stock.items
+
+-- No two lines are of one pool.
+abbrev pub IsEachPoolOnce : List Stock → Type 0
+IsEachPoolOnce stock = (i j : ℕ) (a b : Stock) → slice_get stock i ≡ Some a → slice_get stock j ≡ Some b → a.pool ≡ b.pool → i ≡ j
 
 -- A file has a number up to 1,023 and at most 65,536 bytes, a buffer 1 to 4,096 bytes in 1 to 16 shares.
 pub record IsFile (file : File) : Type 0 where
@@ -322,15 +382,38 @@ IsTokenKind program (Read b) = b < length program.buffers
 IsTokenKind program (Write b k) = (b < length program.buffers) × IsShare program b k
 IsTokenKind program _ = Unit {0}
 
--- The numbers of a thread's lines, from its header's on, and those of all threads.
+-- A thread is the next copy after another: all but the names and the numbers is the same.
+pub record IsNextCopy (earlier later : Thread) : Type 0 where
+  pub number : ℕ
+  pub after : earlier.copy ≡ Some number
+  pub has : later.copy ≡ Some (number + 1)
+  pub name : before_bracket later.name ≡ before_bracket earlier.name
+  pub same : later ≡ record earlier { name = later.name; copy = later.copy }
+
+-- The thread at place i stands right behind the copy before it.
+pub record FollowsCopy (threads : List Thread) (i : ℕ) (thread : Thread) : Type 0 where
+  pub place : ℕ
+  pub before : i ≡ place + 1
+  pub earlier : Thread
+  pub stands : slice_get threads place ≡ Some earlier
+  pub next : IsNextCopy earlier thread
+
+-- The numbers of the lines that say what pools have, of a thread's lines, from its header's on, and of those of all
+-- threads. Copies have one text.
+abbrev pub stock_numbers : List Stock → List ℕ
+stock_numbers stock = map (λ (s : Stock). s.line) stock
+
 abbrev pub numbers_from : ℕ → List Line → List ℕ
 numbers_from header lines = header ∷ map (λ (l : Line). l.number) lines
 
-abbrev pub line_numbers : List Thread → List ℕ
-line_numbers threads = flat_map (λ (t : Thread). numbers_from t.line t.lines) threads
+abbrev pub own_numbers : Thread → List ℕ
+own_numbers t = if is_further t.copy then [] else numbers_from t.line t.lines
 
--- What each made program keeps: the limits, nesting, resolved names, and that from the first header on each line has a
--- higher number than the one before.
+abbrev pub line_numbers : List Thread → List ℕ
+line_numbers threads = flat_map own_numbers threads
+
+-- What each made program keeps: the limits, nesting, resolved names, that copies stand in the order of their numbers, and
+-- that of the lines of pools' stock and those from the first header on each has a higher number than the one before.
 pub record IsProgram (program : Program) : Type 0 where
   pub version : (1 ≤ program.version) × (program.version ≤ 5)
   pub entries : IsRingSize 1024 program.entries
@@ -351,7 +434,12 @@ pub record IsProgram (program : Program) : Type 0 where
   pub pools : All (λ n. is_name n ≡ true) program.pools
   pub distinct_pools : IsDistinct bytes_eq program.pools
   pub no_pools : program.version ≤ 3 → program.pools ≡ []
-  pub few_threads : length program.threads ≤ 16
+  pub few_stock : length program.stock ≤ 17
+  pub stock : All (IsStock program) program.stock
+  pub stock_once : IsEachPoolOnce program.stock
+  pub no_stock : program.version ≤ 4 → program.stock ≡ []
+  pub few_threads : length program.threads ≤ 64
   pub distinct_names : IsDistinct bytes_eq (map (λ (t : Thread). t.name) program.threads)
   pub each : (i : ℕ) (t : Thread) → slice_get program.threads i ≡ Some t → IsThread program t
-  pub numbers : IsStrictlyIncreasing (line_numbers program.threads)
+  pub copies : (i : ℕ) (t : Thread) → slice_get program.threads i ≡ Some t → is_further t.copy ≡ true → FollowsCopy program.threads i t
+  pub numbers : IsStrictlyIncreasing (stock_numbers program.stock ++ line_numbers program.threads)

@@ -6,6 +6,9 @@
 #![tactic(auto)]
 
 pub mod lines;
+pub mod names;
 pub mod numbers;
 pub mod program;
 pub mod request;
+pub mod rows;
+pub mod view;

@@ -1,6 +1,12 @@
 //! Programs and their parts.
 
+ghost use Rattle.std.specs.Prelude.{◌≡◌, ◌<◌, ◌≤◌, length, map};
+ghost use Rattle.rc_lang.specs.Parts.{view_thread};
+ghost use Rattle.rc_lang.specs.Program.{further_copies, line_end};
+
 use crate::lines::Line;
+use crate::names::cut_at_bracket;
+use crate::rows::Rows;
 use std::marker::Model;
 
 /// The head of a program: the version of the notation, and the numbers of entries of its rings, powers of two
@@ -74,6 +80,20 @@ pub struct Declarations {
     pub tokens: Vec<Token>,
     /// The names of pools, in ASCII: at most 16, each once. A pool's number is its place here.
     pub pools: Vec<Vec<u8>>,
+    /// What pools have at the start, in the order of their lines, each pool at most once. One that isn't here has
+    /// nothing.
+    pub stock: Vec<Stock>,
+}
+
+/// What a line says that a pool has at the start.
+#[derive(Drop)]
+pub struct Stock {
+    /// The number of the pool; none: the one without a name.
+    pub pool: Option<usize>,
+    /// The number of the line, from 1.
+    pub line: u32,
+    /// What it has, as what is put into a pool.
+    pub items: Items,
 }
 
 /// Shares of one buffer.
@@ -112,11 +132,13 @@ pub struct Items {
     pub more: More,
 }
 
-/// A thread.
+/// A thread. A line may declare several, its copies, which differ in their names and numbers alone.
 #[derive(Drop)]
 pub struct Thread {
-    /// Its name, in ASCII.
+    /// Its name, in ASCII: `w`, or with its copy's number `w[1]`.
     pub name: Vec<u8>,
+    /// Its number among the copies of its line, from 0; none where the line declares one thread, without a number.
+    pub copy: Option<u32>,
     /// The number of its header's line, from 1.
     pub line: u32,
     /// What it holds as it begins.
@@ -133,11 +155,54 @@ pub struct Thread {
     pub variables: Vec<Vec<u8>>,
     /// The variable that its loops name after `when`, in a program of version 2 or later.
     pub flag: Option<usize>,
+    /// What the names in its lines stand for.
+    pub rows: Rows,
+}
+
+/// How many further copies these threads begin with.
+fn further_copies(threads: &[Thread]) -> usize
+    ensures value { result ≡ further_copies (map view_thread threads.now) }
+    ensures within { result ≤ length threads.now }
+{
+    for (count, thread) in threads.iter().enumerate() {
+        if !thread.is_further() {
+            return count;
+        }
+    }
+    threads.len()
+}
+
+/// The number of the first of these threads behind those of one's line.
+fn line_end(threads: &[Thread], thread: usize) -> usize
+    requires { thread < length threads.now }
+    ensures value { result ≡ line_end (map view_thread threads.now) thread }
+    ensures within { result ≤ length threads.now }
+{
+    thread + 1 + further_copies(&threads[thread + 1..])
 }
 
 impl Thread {
     ghost use Rattle.std.specs.Prelude.{◌≡◌};
+    ghost use Rattle.rc_lang.specs.Names.{before_bracket};
     ghost use Rattle.rc_lang.specs.Parts.{view_thread};
+    ghost use Rattle.rc_lang.specs.Program.{is_further};
+
+    /// Its name as its line declares it, without a copy's number.
+    pub fn declared_name(&self) -> &[u8]
+        ensures { result.now ≡ before_bracket (view_thread self.now).name }
+    {
+        cut_at_bracket(&self.name).0
+    }
+
+    /// Whether it is a copy, and not the first of its line.
+    pub fn is_further(&self) -> bool
+        ensures { result ≡ is_further (view_thread self.now).copy }
+    {
+        match self.copy {
+            Some(copy) => copy > 0,
+            None => false,
+        }
+    }
 
     /// The number of its flag: the variable that its loops name after `when`. None: they name none, and what is held
     /// depends on no variable.
@@ -171,8 +236,10 @@ impl Model for Program {
 
 impl Program {
     ghost use Rattle.std.specs.Prelude.{◌≡◌, map};
-    ghost use Rattle.rc_lang.specs.Parts.{view_buffer, view_items, view_names, view_program, view_thread};
-    ghost use Rattle.rc_lang.specs.Program.{IsProgram, bytes_at, end_at, line_at, lists_of, shares_at, token_place};
+    ghost use Rattle.rc_lang.specs.Parts.{view_buffer, view_items, view_names, view_program, view_stock, view_thread};
+    ghost use Rattle.std.specs.Prelude.{◌<◌, ◌≤◌, length};
+    ghost use Rattle.rc_lang.specs.Program.{IsProgram, bytes_at, end_at, line_at, line_end, lists_of, shares_at, token_place};
+    ghost use Rattle.rc_lang.specs.Rows.{line_read_at};
 
     /// A program of these parts, which keep the limits, the nesting and the resolved names of programs.
     pub fn new(head: Head, declarations: Declarations, threads: Vec<Thread>) -> Program
@@ -251,12 +318,30 @@ impl Program {
         &self.declarations.pools
     }
 
+    /// What pools have at the start, in the order of their lines, which are before those of the threads.
+    pub fn stock(&self) -> &[Stock]
+        ensures value { map view_stock result.now ≡ self.now.stock }
+        ensures made { IsProgram self.now }
+    {
+        &self.declarations.stock
+    }
+
     /// The threads, in the order of their lines.
     pub fn threads(&self) -> &[Thread]
         ensures value { map view_thread result.now ≡ self.now.threads }
         ensures made { IsProgram self.now }
     {
         &self.threads
+    }
+
+    /// The number of the first thread behind those of this one's line: the next one's, but for its further copies.
+    pub fn line_end(&self, thread: usize) -> usize
+        requires { thread < length self.now.threads }
+        ensures value { result ≡ line_end self.now.threads thread }
+        ensures within { result ≤ length self.now.threads }
+        ensures made { IsProgram self.now }
+    {
+        line_end(self.threads(), thread)
     }
 
     /// How many bytes the buffer with this number has, 1 to 4096; 0 where there is none.
@@ -305,6 +390,16 @@ impl Program {
     {
         let thread = self.threads.get(thread)?;
         thread.lines.get(place).copied()
+    }
+
+    /// The same line, with what its names stand for at these values of the thread's variables.
+    pub fn read_line_at(&self, thread: usize, variables: &[i64], place: usize) -> Option<Line>
+        ensures value { result ≡ line_read_at self.now thread variables.now place }
+        ensures made { IsProgram self.now }
+    {
+        let thread = self.threads.get(thread)?;
+        let line = thread.lines.get(place)?;
+        Some(thread.rows.read_line(self, variables, *line))
     }
 
     /// The lists of items of a thread, in the order of their lines; none where there is no such thread.

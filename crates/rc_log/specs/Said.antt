@@ -10,7 +10,7 @@ use Rattle.rc_lang.specs.declared.program.TokenKind.{TokenKind}
 use Rattle.rc_lang.specs.declared.program.TokenKind.TheVariants as kind
 use Rattle.rc_lang.specs.Kinds.{kinds_in}
 use Rattle.rc_lang.specs.Locks.{both_locks}
-use Rattle.rc_lang.specs.Names.{all_name_bytes, is_lower}
+use Rattle.rc_lang.specs.Names.{all_name_bytes, before_bracket, from_bracket, is_lower}
 use Rattle.rc_lang.specs.Numbers.{number_of, signed_number_of}
 use Rattle.rc_lang.specs.Program.{Buffer, Program, Thread}
 use Rattle.rc_log.specs.declared.arguments.Transfer.{Transfer}
@@ -82,6 +82,16 @@ long w = number_of 0 (2 ^ 64 - 1) w
 -- a call's answer, and a completion's result
 abbrev pub answer : List ℕ → Option ℤ
 answer w = signed_number_of (negsuc (2 ^ 31 - 1)) (pos (2 ^ 31 - 1)) w
+
+-- ---- threads
+
+-- Nothing, or a copy's number in brackets.
+abbrev pub is_copy : List ℕ → Bool
+is_copy [] = true
+is_copy (b ∷ bytes) = b == 91 && is_some (count (before_bracket bytes)) && bytes_eq (from_bracket bytes) (codes "]")
+
+abbrev pub is_thread : List ℕ → Bool
+is_thread w = is_name (before_bracket w) && is_copy (from_bracket w)
 
 -- ---- what the program has
 
@@ -295,7 +305,7 @@ said_by thread (Some (Some call)) = Ok (record { thread = thread; call = call })
 -- What the words of a line say.
 abbrev pub said_in : Program → List (List ℕ) → Result Said Why
 said_in p (thread ∷ place ∷ call ∷ ws) =
-    if is_name thread && is_place place then said_by (thread_named p thread) (call_of p call ws) else Err NoPlace
+    if is_thread thread && is_place place then said_by (thread_named p thread) (call_of p call ws) else Err NoPlace
 said_in p _ = Err NoPlace
 
 -- What a line says, which is given without its line feed.

@@ -10,7 +10,7 @@ use crate::arguments::{
 };
 use crate::call::{Call, Lack, Said, Why};
 use crate::marks::{lock, put, reads, take, unlock, writes};
-use crate::parts::{is_name, is_place, thread_named};
+use crate::parts::{is_place, is_thread, thread_named};
 use crate::words::{cut, is, next_word};
 use rc_lang::program::Program;
 
@@ -112,7 +112,7 @@ pub fn read_line(program: &Program, line: &[u8]) -> Result<Said, Why>
     let (thread, rest) = cut(line);
     let (place, rest) = next_word(rest).ok_or(Why::NoPlace)?;
     let (call, rest) = next_word(rest).ok_or(Why::NoPlace)?;
-    if !is_name(thread) || !is_place(place) {
+    if !is_thread(thread) || !is_place(place) {
         return Err(Why::NoPlace);
     }
     let call = call_of(program, call, rest).ok_or(Why::NoCall)?;

@@ -8,6 +8,7 @@ ghost use Rattle.rc_log.specs.Said as spec;
 
 use crate::call::Lack;
 use crate::words::is;
+use rc_lang::names::cut_at_bracket;
 use rc_lang::numbers::{number_of, signed_number_of};
 use rc_lang::program::{Buffer, File, Program, Thread};
 
@@ -85,6 +86,27 @@ pub fn answer(word: &[u8]) -> Option<i32>
     ensures { result ≡ spec.answer word.now }
 {
     Some(signed_number_of(i64::from(i32::MIN), i64::from(i32::MAX), word)? as i32)
+}
+
+// Whether there is nothing, or a copy's number in brackets.
+fn is_copy(rest: &[u8]) -> bool
+    ensures { result ≡ spec.is_copy rest.now }
+{
+    match rest {
+        [] => true,
+        [first, behind @ ..] => {
+            let (number, closing) = cut_at_bracket(behind);
+            *first == b'[' && count(number).is_some() && is(closing, b"]")
+        }
+    }
+}
+
+/// Whether a word names a thread: a name, and behind it in brackets a copy's number or nothing.
+pub fn is_thread(word: &[u8]) -> bool
+    ensures { result ≡ spec.is_thread word.now }
+{
+    let (name, rest) = cut_at_bracket(word);
+    is_name(name) && is_copy(rest)
 }
 
 fn place_of_thread(threads: &[Thread], name: &[u8]) -> Option<usize>

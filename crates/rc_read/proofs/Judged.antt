@@ -6,11 +6,11 @@ use Rattle.std.specs.Borrow.{Bor}
 use Rattle.rc_read.specs.Adds.{added, counted, form_in, items, places_in, says, values}
 use Rattle.rc_read.specs.declared.fault.ReadCause.{ReadCause}
 use Rattle.rc_read.specs.declared.says.Says.{Says}
-use Rattle.rc_read.specs.declared.says.Says.TheVariants.{Case, Close}
+use Rattle.rc_read.specs.declared.says.Says.TheVariants.{Case, Close, UnnamedStock}
 use Rattle.rc_read.specs.declared.table.Row.{Row}
 use Rattle.rc_read.specs.Judging.{AddsNames, named_sentences, JudgesRow, JudgesWords}
 use Rattle.rc_read.specs.Says.{says_of, says_by}
-use Rattle.rc_read.specs.Sentences.{bad_head, bad_line, may_stand, is_unknown, any_unknown, is_double, any_double, any_named_twice, repeats_kind, bad_brace, is_too_long, is_too_deep, is_full, any_full, has_too_many_names, bad_nesting, bad_case, other_flag, form_sentences, word_sentences, first_true}
+use Rattle.rc_read.specs.Sentences.{bad_head, bad_line, may_stand, is_unknown, any_unknown, is_double, any_double, any_named_twice, repeats, bad_brace, is_too_long, is_too_deep, is_full, any_full, has_too_many_names, bad_nesting, bad_case, other_flag, form_sentences, word_sentences, first_true}
 use Rattle.rc_read.specs.Sheets.{Sheet, Draft, is_among, is_variable, with_names, naming}
 use Rattle.rc_read.specs.Spots.{Spot, row_of, spots_of, spots_by}
 use Rattle.rc_read.specs.Table.{parts_of, stand_of}
@@ -33,11 +33,15 @@ any_double_same s vs (p ∷ ps) = or_same (is_double (with_names s vs) p.part p.
 
 any_full_same : (s : Sheet) (vs ps : List Spot) → any_full (with_names s vs) ps ≡ any_full s ps
 any_full_same s vs [] = refl
-any_full_same s vs (p ∷ ps) = or_same (is_full (with_names s vs) p.part) (is_full s p.part) (any_full (with_names s vs) ps) (any_full s ps) (full_kept p.part s vs) (any_full_same s vs ps)
+any_full_same s vs (p ∷ ps) = or_same (is_full (with_names s vs) p.part p.word) (is_full s p.part p.word) (any_full (with_names s vs) ps) (any_full s ps) (full_kept p.part p.word s vs) (any_full_same s vs ps)
 
 brace_same : (what : Says) (s : Sheet) (vs : List Spot) → bad_brace (with_names s vs) what ≡ bad_brace s what
 brace_same Close s vs = refl
 brace_same _ s vs = refl
+
+repeats_same : (what : Says) (s : Sheet) (vs : List Spot) → repeats (with_names s vs) what ≡ repeats s what
+repeats_same UnnamedStock s vs = refl
+repeats_same _ s vs = refl
 
 case_same : (what : Says) (d : Draft) (vs : List Spot) → bad_case (naming d vs) what ≡ bad_case d what
 case_same (Case u) d vs = refl
@@ -50,7 +54,7 @@ abbrev later_by : Sheet → List ℕ → List (List ℕ) → Option Row → List
 later_by s line ws o =
     (4, any_lacks (with_names s (spots_by o ws)) start (spots_by o ws))
     ∷ (5, any_unknown s (spots_by o ws))
-    ∷ (6, any_double s (spots_by o ws) || any_named_twice (items_in (values s (spots_by o ws))) || repeats_kind (says_by o (values s (spots_by o ws))))
+    ∷ (6, any_double s (spots_by o ws) || any_named_twice (items_in (values s (spots_by o ws))) || repeats s (says_by o (values s (spots_by o ws))))
     ∷ (7, bad_brace s (says_by o (values s (spots_by o ws))))
     ∷ (8, is_too_long s line || is_too_deep s (says_by o (values s (spots_by o ws))) || any_full s (spots_by o ws) || has_too_many_names s (spots_by o ws))
     ∷ (9, bad_nesting s.draft.blocks (items_in (values s (spots_by o ws))) (says_by o (values s (spots_by o ws))))
@@ -70,11 +74,11 @@ row_same : (s : Sheet) (line : List ℕ) (ws : List (List ℕ)) (row : Row) → 
 row_same s line ws row =
     let sp = spots_of (parts_of row) ws in
     let what = says_of row (values s sp) in
-    eight_same (any_lacks (with_names s sp) start sp) (any_unknown s sp) (any_double s sp || any_named_twice (items_in (values s sp)) || repeats_kind what) (bad_brace s what)
+    eight_same (any_lacks (with_names s sp) start sp) (any_unknown s sp) (any_double s sp || any_named_twice (items_in (values s sp)) || repeats s what) (bad_brace s what)
     (is_too_long s line || is_too_deep s what || any_full s sp || has_too_many_names s sp) (bad_nesting s.draft.blocks (items_in (values s sp)) what) (bad_case s.draft what) (other_flag s.draft.flag (flag_in (items_in (values s sp))))
-    (any_unknown (with_names s sp) sp) (any_double (with_names s sp) sp || any_named_twice (items_in (values s sp)) || repeats_kind what) (bad_brace (with_names s sp) what)
+    (any_unknown (with_names s sp) sp) (any_double (with_names s sp) sp || any_named_twice (items_in (values s sp)) || repeats (with_names s sp) what) (bad_brace (with_names s sp) what)
     (is_too_long s line || is_too_deep s what || any_full (with_names s sp) sp || has_too_many_names s sp) (bad_case (naming s.draft sp) what)
-    (any_unknown_same s sp sp) (ap (λ (x : Bool). x || any_named_twice (items_in (values s sp)) || repeats_kind what) (any_double_same s sp sp)) (brace_same what s sp)
+    (any_unknown_same s sp sp) (ap (λ (x : Bool). x || any_named_twice (items_in (values s sp)) || repeats (with_names s sp) what) (any_double_same s sp sp) ∙ ap (λ (x : Bool). any_double s sp || any_named_twice (items_in (values s sp)) || x) (repeats_same what s sp)) (brace_same what s sp)
     (ap (λ (x : Bool). is_too_long s line || is_too_deep s what || x || has_too_many_names s sp) (any_full_same s sp sp)) (case_same what s.draft sp)
 
 skip_two : (a b : Bool) (rest : List (ℕ × Bool)) → a ≡ false → b ≡ false → first_true ((2, a) ∷ (3, b) ∷ rest) ≡ first_true rest

@@ -17,7 +17,7 @@ use Rattle.rc_lang.specs.Program.{IsFlag, IsItems, IsList, IsOfPool, IsResolved,
 use Rattle.rc_lang.proofs.Lookups.{EachNested, blocks_new, blocks_old, nested_more, nested_start, stands_within, stmt_push}
 use Rattle.rc_lang.proofs.Placed.{ArePlaced, placed, placed_innermost}
 use Rattle.rc_read.specs.declared.values.Item.{Item}
-use Rattle.rc_read.specs.Adds.{ends_behind, held, held_in_loop, lists_behind, whole_thread, with_stmt}
+use Rattle.rc_read.specs.Adds.{copy_of, ends_behind, held, held_in_loop, lists_behind, whole_thread, with_stmt}
 use Rattle.rc_read.specs.Sheets.{Draft, headed, names_behind, naming}
 use Rattle.rc_read.specs.Spots.{Spot}
 use Rattle.rc_read.specs.Values.{flag_in}
@@ -49,8 +49,8 @@ pub record IsDraft (p : Program) (d : Draft) : Type 0 where
   pub puts : (j : ℕ) (pool : Option ℕ) (k : ℕ) → stmt_at d.lines j ≡ Some (Put pool k) → IsOfPool (items_at d.lists k)
   pub takes : (j : ℕ) (pool : Option ℕ) (k : ℕ) → stmt_at d.lines j ≡ Some (If (Take pool k)) → IsOfPool (items_at d.lists k)
 
-pub draft_start : (p : Program) (name : List ℕ) (line : ℕ) (items : Items) → is_name name ≡ true → 1 ≤ line → line ≤ 4096 → IsItems p items → items.queue ≡ None → items.more ≡ no_more → IsDraft p (headed name line items)
-draft_start p name line items is some few held none nothing = record {
+pub draft_start : (p : Program) (name : List ℕ) (copies : Option ℕ) (line : ℕ) (items : Items) → is_name name ≡ true → 1 ≤ line → line ≤ 4096 → IsItems p items → items.queue ≡ None → items.more ≡ no_more → IsDraft p (headed name copies line items)
+draft_start p name copies line items is some few held none nothing = record {
   name = is;
   line = (some, few);
   items = held;
@@ -292,7 +292,7 @@ module _ (p : Program) (d : Draft) (k : IsDraft p d) where
   pub draft_whole : length d.lines ≤ 4096 → d.blocks ≡ [] → IsThread p (whole_thread d)
   draft_whole few e = record {
     few_lines = few;
-    name = k.name;
+    name = (d.name, k.name, refl);
     line = k.line;
     items = k.items;
     no_queue = k.no_queue;
@@ -301,10 +301,33 @@ module _ (p : Program) (d : Draft) (k : IsDraft p d) where
     numbers = k.numbers;
     few_variables = k.few_names;
     flag = k.flag;
+    rows = refl;
     nested = record { each = k.each; depth = k.depth; closed = k.stand ∙ e };
     resolved = k.resolved;
     linked = all_linked d.lines d.ends (subst (λ bs. AreKept bs d.lines d.ends) e k.kept);
     queues = k.queues;
     puts = k.puts;
     takes = k.takes;
+  }
+
+  -- and so are its copies
+  pub draft_copy : length d.lines ≤ 4096 → d.blocks ≡ [] → (copy : ℕ) → IsThread p (copy_of (whole_thread d) copy)
+  draft_copy few e copy = let t = draft_whole few e in record {
+    few_lines = t.few_lines;
+    name = (d.name, k.name, refl);
+    line = t.line;
+    items = t.items;
+    no_queue = t.no_queue;
+    no_more = t.no_more;
+    lists = t.lists;
+    numbers = t.numbers;
+    few_variables = t.few_variables;
+    flag = record { variable = t.flag.variable; version = t.flag.version; without = t.flag.without };
+    rows = t.rows;
+    nested = t.nested;
+    resolved = t.resolved;
+    linked = t.linked;
+    queues = t.queues;
+    puts = t.puts;
+    takes = t.takes;
   }

@@ -12,7 +12,7 @@ use Rattle.rc_read.specs.declared.values.Item.{Item}
 use Rattle.rc_read.specs.Adds.{form_in, values}
 use Rattle.rc_read.specs.Judging.{later_sentences}
 use Rattle.rc_read.specs.Says.{says_by}
-use Rattle.rc_read.specs.Sentences.{any_double, any_full, any_named_twice, any_unknown, bad_brace, bad_case, bad_head, bad_line, bad_nesting, first_true, form_sentences, has_too_many_names, is_inside, is_too_deep, is_too_long, may_stand, repeats_kind}
+use Rattle.rc_read.specs.Sentences.{any_double, any_full, any_named_twice, any_unknown, bad_brace, bad_case, bad_head, bad_line, bad_nesting, first_true, form_sentences, has_too_many_names, is_inside, is_too_deep, is_too_long, may_stand, repeats}
 use Rattle.rc_read.specs.Sheets.{Sheet, names_behind, with_names}
 use Rattle.rc_read.specs.Spots.{first_row, form_by, is_form, matches, row_of, spots_by, spots_of}
 use Rattle.rc_read.specs.Table.{parts_of, rows}
@@ -36,7 +36,7 @@ few_lines s line e = leb-false 4096 s.count (or_parts (nat_le 4096 s.count) (nat
 pub few_above : (s : Sheet) (line : List ℕ) (wrong : Wrong) (items : List Item) (what : Says) → first_true (later_sentences s line wrong items what) ≡ None → s.count < 4096
 few_above s line wrong items what e =
     let p6 = (none_true 5 wrong.unknown _ e).1 in
-    let p7 = (none_true 6 (wrong.double || any_named_twice items || repeats_kind what) _ p6).1 in
+    let p7 = (none_true 6 (wrong.double || any_named_twice items || repeats s what) _ p6).1 in
     let p8 = (none_true 7 (bad_brace s what) _ p7).1 in
     let large = (none_true 8 (is_too_long s line || is_too_deep s what || wrong.full || nat_lt 64 (length s.draft.names)) _ p8).0 in
     let names = or_parts (is_too_long s line || is_too_deep s what || wrong.full) (nat_lt 64 (length s.draft.names)) large in
@@ -54,7 +54,7 @@ pub record AreFalse (s : Sheet) (ws : List (List ℕ)) (form : Option Row) : Typ
   pub known : any_unknown s (spots_by form ws) ≡ false
   pub new : any_double s (spots_by form ws) ≡ false
   pub once : any_named_twice (items_by s ws form) ≡ false
-  pub kinds : repeats_kind (says_by form (values s (spots_by form ws))) ≡ false
+  pub again : repeats s (says_by form (values s (spots_by form ws))) ≡ false
   pub braces : bad_brace s (says_by form (values s (spots_by form ws))) ≡ false
   pub few_lines : s.count < 4096
   pub depth : is_too_deep s (says_by form (values s (spots_by form ws))) ≡ false
@@ -71,12 +71,12 @@ are_false s line ws e =
     let p3 = none_true 3 (bad_line s.region (form_in s ws)) _ p2 in
     let p4 = none_true 4 (any_lacks (with_names s spots) start spots) _ p3.1 in
     let p5 = none_true 5 (any_unknown s spots) _ p4.1 in
-    let p6 = none_true 6 (any_double s spots || any_named_twice (items_by s ws (form_in s ws)) || repeats_kind what) _ p5.1 in
+    let p6 = none_true 6 (any_double s spots || any_named_twice (items_by s ws (form_in s ws)) || repeats s what) _ p5.1 in
     let p7 = none_true 7 (bad_brace s what) _ p6.1 in
     let p8 = none_true 8 (is_too_long s line || is_too_deep s what || any_full s spots || has_too_many_names s spots) _ p7.1 in
     let p9 = none_true 9 (bad_nesting s.draft.blocks (items_by s ws (form_in s ws)) what) _ p8.1 in
     let p10 = none_true 10 (bad_case s.draft what) _ p9.1 in
-    let twice = or_parts (any_double s spots || any_named_twice (items_by s ws (form_in s ws))) (repeats_kind what) p6.0 in
+    let twice = or_parts (any_double s spots || any_named_twice (items_by s ws (form_in s ws))) (repeats s what) p6.0 in
     let double = or_parts (any_double s spots) (any_named_twice (items_by s ws (form_in s ws))) twice.0 in
     let names = or_parts (is_too_long s line || is_too_deep s what || any_full s spots) (has_too_many_names s spots) p8.0 in
     let full = or_parts (is_too_long s line || is_too_deep s what) (any_full s spots) names.0 in
@@ -87,7 +87,7 @@ are_false s line ws e =
       known = p5.0;
       new = double.0;
       once = double.1;
-      kinds = twice.1;
+      again = twice.1;
       braces = p7.0;
       few_lines = few_lines s line deep.0;
       depth = deep.1;

@@ -134,6 +134,6 @@ module _ (s : Sheet) (d : Draft) where
 
   pub token_kinds : (ws : List (List ℕ)) → matches (parts_of row.TokenKinds) ws ≡ true → SayKinds start (spots_of (parts_of row.TokenKinds) ws)
   token_kinds ws e =
-      let k = is_second words.Token NewToken (Kinds ∷ []) ws refl refl e in
+      let k = is_second words.Token NewToken (Kinds ∷ []) ws refl e in
       let ps = spots_of_kinds KindWord k.rest in
       subst (SayKinds start) (sym (k.spots ∙ ap (λ qs. record { part = NewToken; word = second_of ws } ∷ qs) (append-nil ps))) (token_more (second_of ws) ps (kinds_fine k.rest KindWord start tt))

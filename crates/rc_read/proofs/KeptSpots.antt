@@ -4,7 +4,7 @@ use Rattle.std.proofs.lemmas.Bool.{or_left, or_right}
 use Rattle.std.proofs.lemmas.List.Folds.{list_any-append}
 use Rattle.std.proofs.lemmas.Cmp.{nat_list_eq_equiv}
 use Rattle.rc_read.specs.declared.table.Part.{Part}
-use Rattle.rc_read.specs.declared.table.Part.TheVariants.{Fixed, Flag, Items, Kinds}
+use Rattle.rc_read.specs.declared.table.Part.TheVariants.{Fixed, Flag, Items, Kinds, NewThreads}
 use Rattle.rc_read.specs.declared.fixed.Word.{Word}
 use Rattle.rc_read.specs.Adds.{second_of}
 use Rattle.rc_read.specs.Sheets.{is_among, is_variable, names_behind, number_in, with_name}
@@ -44,6 +44,7 @@ AreOf [] ps = Unit {0}
 AreOf (Fixed f ∷ parts) ps = AreOf parts ps
 AreOf (Items ∷ parts) ps = Unit {0}
 AreOf (Kinds ∷ parts) ps = Unit {0}
+AreOf (NewThreads ∷ parts) ps = Unit {0}
 AreOf (part ∷ parts) ps = (w : List ℕ) × (rest : List Spot) × (ps ≡ record { part = part; word = w } ∷ rest) × AreOf parts rest
 
 pub are_of : (parts : List Part) (ws : List (List ℕ)) → matches parts ws ≡ true → AreOf parts (spots_of parts ws)
@@ -51,29 +52,34 @@ are_of [] ws e = tt
 are_of (Fixed f ∷ parts) ws e = let h = has_word (Fixed f) parts ws refl e in subst (λ ps. AreOf parts ps) (sym (spots_step (Fixed f) parts ws h)) (are_of parts h.rest h.matches)
 are_of (Items ∷ parts) ws e = tt
 are_of (Kinds ∷ parts) ws e = tt
+are_of (NewThreads ∷ parts) ws e = tt
 are_of (part ∷ parts) ws e = let h = has_word part parts ws refl e in (h.word, spots_of parts h.rest, spots_step part parts ws h, are_of parts h.rest h.matches)
 
--- After a fixed word the place of the line's second word is first.
+-- A word in such a place is one.
+abbrev pub IsPlain : Part → Type 0
+IsPlain part = (w : List ℕ) → spot_of_part part (w ∷ []) ≡ record { part = part; word = w } ∷ []
+
+-- After a fixed word the places of the line's second word are first.
 pub record IsSecond (f : Word) (part : Part) (parts : List Part) (ws : List (List ℕ)) : Type 0 where
   pub fits : fits part (second_of ws) ≡ true
   pub rest : List (List ℕ)
-  pub spots : spots_of (Fixed f ∷ part ∷ parts) ws ≡ record { part = part; word = second_of ws } ∷ spots_of parts rest
+  pub spots : spots_of (Fixed f ∷ part ∷ parts) ws ≡ spot_of_part part (second_of ws ∷ []) ++ spots_of parts rest
   pub matches : matches parts rest ≡ true
 
-pub is_second : (f : Word) (part : Part) (parts : List Part) (ws : List (List ℕ)) → is_list part ≡ false → is_fixed part ≡ false → matches (Fixed f ∷ part ∷ parts) ws ≡ true → IsSecond f part parts ws
-is_second f part parts ws one plain e =
+pub is_second : (f : Word) (part : Part) (parts : List Part) (ws : List (List ℕ)) → is_list part ≡ false → matches (Fixed f ∷ part ∷ parts) ws ≡ true → IsSecond f part parts ws
+is_second f part parts ws one e =
     let h = has_word (Fixed f) (part ∷ parts) ws refl e in
     let k = has_word part parts h.rest one h.matches in
     let w : k.word ≡ second_of ws = ap second_of (sym (h.words ∙ ap (λ xs. h.word ∷ xs) k.words)) in
     record {
       fits = subst (λ x. fits part x ≡ true) w k.fits;
       rest = k.rest;
-      spots = spots_step (Fixed f) (part ∷ parts) ws h ∙ spots_step part parts h.rest k ∙ ap (λ ps. ps ++ spots_of parts k.rest) (alone k.word k.rest) ∙ ap (λ x. record { part = part; word = x } ∷ spots_of parts k.rest) w;
+      spots = spots_step (Fixed f) (part ∷ parts) ws h ∙ spots_step part parts h.rest k ∙ ap (λ ps. ps ++ spots_of parts k.rest) (alone k.word k.rest) ∙ ap (λ x. spot_of_part part (x ∷ []) ++ spots_of parts k.rest) w;
       matches = k.matches;
     }
   where
-    alone : (w : List ℕ) (rest : List (List ℕ)) → spots_at part (w ∷ rest) ≡ record { part = part; word = w } ∷ []
-    alone w rest = ap (λ b. cond b (spots_of_list part (w ∷ rest)) (spot_of_part part (w ∷ rest))) one ∙ ap (λ b. cond b [] (record { part = part; word = w } ∷ [])) plain
+    alone : (w : List ℕ) (rest : List (List ℕ)) → spots_at part (w ∷ rest) ≡ spot_of_part part (w ∷ [])
+    alone w rest = ap (λ b. cond b (spots_of_list part (w ∷ rest)) (spot_of_part part (w ∷ rest))) one
 
 no_spot : (f : Word) (ws : List (List ℕ)) → spot_of_part (Fixed f) ws ≡ []
 no_spot f [] = refl
@@ -97,17 +103,24 @@ items_after e f g ws m =
     let k = items_between f g h.rest h.matches in
     (k.0, spots_step (Fixed e) (Fixed f ∷ Items ∷ Fixed g ∷ []) ws h ∙ k.1)
 
--- After a fixed word and another place, or after two fixed words and another place, are those of the items.
-pub items_second : (f : Word) (part : Part) (ws : List (List ℕ)) → is_list part ≡ false → is_fixed part ≡ false → matches (Fixed f ∷ part ∷ Items ∷ []) ws ≡ true → (w : List ℕ) × (rest : List (List ℕ)) × (spots_of (Fixed f ∷ part ∷ Items ∷ []) ws ≡ record { part = part; word = w } ∷ spots_of_items rest)
-items_second f part ws one plain e =
-    let k = is_second f part (Items ∷ []) ws one plain e in
-    (second_of ws, k.rest, k.spots ∙ ap (λ ps. record { part = part; word = second_of ws } ∷ ps) (append-nil (spots_of_items k.rest)))
+-- After two fixed words, at the end of the line.
+pub items_behind : (f g : Word) (ws : List (List ℕ)) → matches (Fixed f ∷ Fixed g ∷ Items ∷ []) ws ≡ true → (rest : List (List ℕ)) × (spots_of (Fixed f ∷ Fixed g ∷ Items ∷ []) ws ≡ spots_of_items rest)
+items_behind f g ws e =
+    let h = has_word (Fixed f) (Fixed g ∷ Items ∷ []) ws refl e in
+    let k = items_alone g h.rest h.matches in
+    (k.0, spots_step (Fixed f) (Fixed g ∷ Items ∷ []) ws h ∙ k.1)
 
-pub items_third : (e f g : Word) (part : Part) (ws : List (List ℕ)) → is_list part ≡ false → is_fixed part ≡ false → matches (Fixed e ∷ Fixed f ∷ part ∷ Items ∷ Fixed g ∷ []) ws ≡ true → (w : List ℕ) × (rest : List (List ℕ)) × (spots_of (Fixed e ∷ Fixed f ∷ part ∷ Items ∷ Fixed g ∷ []) ws ≡ record { part = part; word = w } ∷ spots_of_items rest)
+-- After a fixed word and another place, or after two fixed words and another place, are those of the items.
+pub items_second : (f : Word) (part : Part) (ws : List (List ℕ)) → is_list part ≡ false → IsPlain part → matches (Fixed f ∷ part ∷ Items ∷ []) ws ≡ true → (w : List ℕ) × (rest : List (List ℕ)) × (spots_of (Fixed f ∷ part ∷ Items ∷ []) ws ≡ record { part = part; word = w } ∷ spots_of_items rest)
+items_second f part ws one plain e =
+    let k = is_second f part (Items ∷ []) ws one e in
+    (second_of ws, k.rest, k.spots ∙ ap (λ ps. ps ++ spots_of (Items ∷ []) k.rest) (plain (second_of ws)) ∙ ap (λ ps. record { part = part; word = second_of ws } ∷ ps) (append-nil (spots_of_items k.rest)))
+
+pub items_third : (e f g : Word) (part : Part) (ws : List (List ℕ)) → is_list part ≡ false → IsPlain part → matches (Fixed e ∷ Fixed f ∷ part ∷ Items ∷ Fixed g ∷ []) ws ≡ true → (w : List ℕ) × (rest : List (List ℕ)) × (spots_of (Fixed e ∷ Fixed f ∷ part ∷ Items ∷ Fixed g ∷ []) ws ≡ record { part = part; word = w } ∷ spots_of_items rest)
 items_third e f g part ws one plain m =
     let h = has_word (Fixed e) (Fixed f ∷ part ∷ Items ∷ Fixed g ∷ []) ws refl m in
-    let k = is_second f part (Items ∷ Fixed g ∷ []) h.rest one plain h.matches in
-    (second_of h.rest, k.rest, spots_step (Fixed e) (Fixed f ∷ part ∷ Items ∷ Fixed g ∷ []) ws h ∙ k.spots ∙ ap (λ ps. record { part = part; word = second_of h.rest } ∷ ps) (items_first g k.rest))
+    let k = is_second f part (Items ∷ Fixed g ∷ []) h.rest one h.matches in
+    (second_of h.rest, k.rest, spots_step (Fixed e) (Fixed f ∷ part ∷ Items ∷ Fixed g ∷ []) ws h ∙ k.spots ∙ ap (λ ps. ps ++ spots_of (Items ∷ Fixed g ∷ []) k.rest) (plain (second_of h.rest)) ∙ ap (λ ps. record { part = part; word = second_of h.rest } ∷ ps) (items_first g k.rest))
 
 -- Around a flag are the places of two lists of items.
 pub record HasFlag (spots : List Spot) : Type 0 where

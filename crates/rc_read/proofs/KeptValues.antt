@@ -10,13 +10,13 @@ use Rattle.rc_lang.specs.declared.program.Token.{Token as TokenOf}
 use Rattle.rc_lang.specs.Numbers.{is_number, number_of, value_of}
 use Rattle.rc_lang.specs.Program.{Buffer as BufferOf, DeclaresFile, DeclaresToken, IsOperand, Program, Thread as ThreadOf, shares_at}
 use Rattle.rc_read.specs.declared.table.Part.{Part}
-use Rattle.rc_read.specs.declared.table.Part.TheVariants.{Fixed, Variable, Operand, Number, File, Buffer, Token, Pool, NewFile, NewBuffer, NewToken, NewPool, NewThread, Items, Kinds}
+use Rattle.rc_read.specs.declared.table.Part.TheVariants.{Fixed, Variable, Operand, Number, File, Buffer, Token, Pool, NewFile, NewBuffer, NewToken, NewPool, NewThread, NewThreads, Items, Kinds}
 use Rattle.rc_read.specs.declared.table.Range.TheVariants.{Within, Size, CompletionSize, Rounded, Entries, Shares}
 use Rattle.rc_read.specs.declared.values.Seen.{Seen}
 use Rattle.rc_read.specs.declared.values.Value.{Value}
 use Rattle.rc_read.specs.declared.values.Value.TheVariants as value
 use Rattle.rc_read.specs.Says.{as_named, as_operand, as_small, as_user_data}
-use Rattle.rc_read.specs.Sentences.{any_double, any_full, any_unknown, is_double, is_full, is_unknown, lacks_file, lacks_token, repeats_file, repeats_token}
+use Rattle.rc_read.specs.Sentences.{any_double, any_full, any_unknown, is_double, is_full, is_unknown, lacks_file, lacks_token, most_threads, repeats_file, repeats_token}
 use Rattle.rc_read.specs.Sheets.{Draft, Sheet, buffer_names, buffer_number, has_file, has_token, is_among, is_variable, number_in, shares_in}
 use Rattle.rc_read.specs.Spots.{Spot, begins_number}
 use Rattle.rc_read.specs.Values.{any_lacks, file_number_of, rounded_up, seen_behind, share_number, signed_of, sized, small_value, start, user_data_of, value_at, values_of, with_room}
@@ -33,6 +33,7 @@ made threads s = record {
   buffers = s.buffers;
   tokens = s.tokens;
   pools = s.pools;
+  stock = s.stock;
   threads = threads;
 }
 
@@ -78,7 +79,7 @@ shares_known (b ∷ bs) w e = go (bytes_eq b.name w) e (λ h. shares_known bs w 
 -- ---- numbers
 
 -- what the word of a number's place says, where it is one
-some_small : (o : Option ℕ) → is_none (small_value o) ≡ false → o ≡ Some (as_small (Some (unwrap_or (small_value o) value.Nothing)))
+pub some_small : (o : Option ℕ) → is_none (small_value o) ≡ false → o ≡ Some (as_small (Some (unwrap_or (small_value o) value.Nothing)))
 some_small None e = absurd (cc)
 some_small (Some n) e = refl
 
@@ -92,8 +93,16 @@ in_range low high w n e =
     let q : value_of w ≡ n = c.1 in
     (omega arith, omega arith)
 
-within : (low high : ℕ) (w : List ℕ) → is_none (small_value (number_of low high w)) ≡ false → (low ≤ as_small (Some (unwrap_or (small_value (number_of low high w)) value.Nothing))) × (as_small (Some (unwrap_or (small_value (number_of low high w)) value.Nothing)) ≤ high)
+pub within : (low high : ℕ) (w : List ℕ) → is_none (small_value (number_of low high w)) ≡ false → (low ≤ as_small (Some (unwrap_or (small_value (number_of low high w)) value.Nothing))) × (as_small (Some (unwrap_or (small_value (number_of low high w)) value.Nothing)) ≤ high)
 within low high w e = in_range low high w (as_small (Some (unwrap_or (small_value (number_of low high w)) value.Nothing))) (some_small (number_of low high w) e)
+
+-- no version has more threads
+pub few_most : (version : ℕ) → most_threads version ≤ 64
+few_most version = go (nat_le 5 version)
+  where
+    go : (b : Bool) → cond b 64 16 ≤ 64
+    go true = omega arith
+    go false = omega arith
 
 with_room_is : (r : ℕ) (o : Option ℕ) → is_none (small_value (with_room r o)) ≡ false → r ≤ rounded_up (as_small (Some (unwrap_or (small_value (with_room r o)) value.Nothing)))
 with_room_is r None e = absurd (cc)
@@ -145,7 +154,7 @@ module _ (threads : List ThreadOf) (s : Sheet) (d : Draft) where
   FineAt r b NewBuffer v = length s.buffers < 64
   FineAt r b NewToken v = (has_token s.tokens (as_user_data v) ≡ false) × (length s.tokens < 256)
   FineAt r b NewPool v = length s.pools < 16
-  FineAt r b NewThread v = length s.threads < 16
+  FineAt r b NewThread v = length s.threads < 64
   FineAt r b part v = Unit {0}
 
   abbrev pub rounded_behind : ℕ → Part → Option Value → ℕ
@@ -162,6 +171,7 @@ module _ (threads : List ThreadOf) (s : Sheet) (d : Draft) where
   Fine vs i r b (Fixed f ∷ parts) = Fine vs i r b parts
   Fine vs i r b (Items ∷ parts) = Unit {0}
   Fine vs i r b (Kinds ∷ parts) = Unit {0}
+  Fine vs i r b (NewThreads ∷ parts) = Unit {0}
   Fine vs i r b (part ∷ parts) = FineAt r b part (slice_get vs i) × Fine vs (suc i) (rounded_behind r part (slice_get vs i)) (buffer_behind b part (slice_get vs i)) parts
 
   abbrev sheet : Sheet
@@ -181,7 +191,7 @@ module _ (threads : List ThreadOf) (s : Sheet) (d : Draft) where
     pub value : is_none (value_at sheet seen part w) ≡ false
     pub known : is_unknown s part w ≡ false
     pub new : is_double s part w ≡ false
-    pub room : is_full s part ≡ false
+    pub room : is_full s part w ≡ false
     pub named : is_variable part w ≡ true → is_among d.names w ≡ true
 
   fine_shares : (w : List ℕ) (b seen : Option ℕ) → IsSeen b seen → is_none (small_value (share_number seen w)) ≡ false → FineShares s.buffers b (as_small (Some (unwrap_or (small_value (share_number seen w)) value.Nothing)))
@@ -211,7 +221,7 @@ module _ (threads : List ThreadOf) (s : Sheet) (d : Draft) where
   fine_here seen r b a NewBuffer w h = leb-false 64 (length s.buffers) h.room
   fine_here seen r b a NewToken w h = (new_token s (user_data_of w) h.value h.new, leb-false 256 (length s.tokens) h.room)
   fine_here seen r b a NewPool w h = leb-false 16 (length s.pools) h.room
-  fine_here seen r b a NewThread w h = leb-false 16 (length s.threads) h.room
+  fine_here seen r b a NewThread w h = omega (arith, leb-false (most_threads s.head.version) (length s.threads) h.room, few_most s.head.version)
   fine_here seen r b a part w h = tt
 
   agrees_behind : (seen : Seen) (r : ℕ) (b : Option ℕ) → Agrees seen r b → (part : Part) (w : List ℕ) → IsRight seen part w → Agrees (seen_behind sheet seen part w) (rounded_behind r part (Some (unwrap_or (value_at sheet seen part w) value.Nothing))) (buffer_behind b part (Some (unwrap_or (value_at sheet seen part w) value.Nothing)))
@@ -237,7 +247,7 @@ module _ (threads : List ThreadOf) (s : Sheet) (d : Draft) where
     value = (or_parts (is_none (value_at sheet seen p.part p.word)) (any_lacks sheet (seen_behind sheet seen p.part p.word) ps) h.numbers).0;
     known = (or_parts (is_unknown s p.part p.word) (any_unknown s ps) h.known).0;
     new = (or_parts (is_double s p.part p.word) (any_double s ps) h.new).0;
-    room = (or_parts (is_full s p.part) (any_full s ps) h.room).0;
+    room = (or_parts (is_full s p.part p.word) (any_full s ps) h.room).0;
     named = h.named.0;
   }
 
@@ -246,7 +256,7 @@ module _ (threads : List ThreadOf) (s : Sheet) (d : Draft) where
     numbers = (or_parts (is_none (value_at sheet seen p.part p.word)) (any_lacks sheet (seen_behind sheet seen p.part p.word) ps) h.numbers).1;
     known = (or_parts (is_unknown s p.part p.word) (any_unknown s ps) h.known).1;
     new = (or_parts (is_double s p.part p.word) (any_double s ps) h.new).1;
-    room = (or_parts (is_full s p.part) (any_full s ps) h.room).1;
+    room = (or_parts (is_full s p.part p.word) (any_full s ps) h.room).1;
     named = h.named.1;
     values = λ k. let n : suc i + k ≡ i + suc k = omega arith in ap (λ m. slice_get vs m) n ∙ h.values (suc k);
   }
@@ -256,6 +266,7 @@ module _ (threads : List ThreadOf) (s : Sheet) (d : Draft) where
   fine_is vs (Fixed f ∷ parts) i seen r b ps a are h = fine_is vs parts i seen r b ps a are h
   fine_is vs (Items ∷ parts) i seen r b ps a are h = tt
   fine_is vs (Kinds ∷ parts) i seen r b ps a are h = tt
+  fine_is vs (NewThreads ∷ parts) i seen r b ps a are h = tt
   fine_is vs (part ∷ parts) i seen r b ps a are h =
       let k = subst (λ qs. AreRight vs i seen qs) are.2 h in
       let f = first_right vs i seen (record { part = part; word = are.0 }) are.1 k in

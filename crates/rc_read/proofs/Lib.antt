@@ -14,6 +14,7 @@ pub mod KeptResolved
 pub mod KeptRows
 pub mod KeptSheet
 pub mod KeptSpots
+pub mod KeptStock
 pub mod KeptValues
 pub mod Numbered
 pub mod Places

@@ -95,9 +95,9 @@ pub double_kept : (part : Part) (w : List ℕ) (s : Sheet) (ps : List Spot) → 
 double_kept part.NewFile w s ps = refl
 double_kept _ w s ps = refl
 
-pub full_kept : (part : Part) (s : Sheet) (ps : List Spot) → is_full (with_names s ps) part ≡ is_full s part
-full_kept part.NewFile s ps = refl
-full_kept _ s ps = refl
+pub full_kept : (part : Part) (w : List ℕ) (s : Sheet) (ps : List Spot) → is_full (with_names s ps) part w ≡ is_full s part w
+full_kept part.NewFile w s ps = refl
+full_kept _ w s ps = refl
 
 -- ---- place by place, on the sheet with the variables of all
 
@@ -134,5 +134,5 @@ unknown_on p ps s t a d e h = or_more a (is_unknown s p.part p.word) (is_unknown
 pub double_on : (p : Spot) (ps : List Spot) (s t : Sheet) (a d : Bool) → with_names s (p ∷ ps) ≡ t → (a || any_double t (p ∷ ps)) ≡ d → ((is_double s p.part p.word || a) || any_double t ps) ≡ d
 double_on p ps s t a d e h = or_more a (is_double s p.part p.word) (is_double t p.part p.word) (any_double t ps) d (ap (λ (x : Sheet). is_double x p.part p.word) (sym e) ∙ double_kept p.part p.word s (p ∷ ps)) h
 
-pub full_on : (p : Spot) (ps : List Spot) (s t : Sheet) (a d : Bool) → with_names s (p ∷ ps) ≡ t → (a || any_full t (p ∷ ps)) ≡ d → ((is_full s p.part || a) || any_full t ps) ≡ d
-full_on p ps s t a d e h = or_more a (is_full s p.part) (is_full t p.part) (any_full t ps) d (ap (λ (x : Sheet). is_full x p.part) (sym e) ∙ full_kept p.part s (p ∷ ps)) h
+pub full_on : (p : Spot) (ps : List Spot) (s t : Sheet) (a d : Bool) → with_names s (p ∷ ps) ≡ t → (a || any_full t (p ∷ ps)) ≡ d → ((is_full s p.part p.word || a) || any_full t ps) ≡ d
+full_on p ps s t a d e h = or_more a (is_full s p.part p.word) (is_full t p.part p.word) (any_full t ps) d (ap (λ (x : Sheet). is_full x p.part p.word) (sym e) ∙ full_kept p.part p.word s (p ∷ ps)) h

@@ -1,9 +1,10 @@
 -- What a line adds to the sheet.
-use Rattle.std.specs.Prelude.{ℕ, ◌+◌, List, [], ◌∷◌, ◌++◌, length, slice_get, slice_set, Option, Some, None, true, unwrap_or}
+use Rattle.std.specs.Prelude.{ℕ, zero, suc, ◌+◌, List, [], ◌∷◌, ◌++◌, length, slice_get, slice_set, Option, Some, None, true, unwrap_or}
 use Rattle.std.specs.Option.{option_or}
 use Rattle.rc_lang.specs.Locks.{both_locks}
+use Rattle.rc_lang.specs.Names.{before_bracket, numbered}
 use Rattle.rc_lang.specs.Nesting.{innermost, blocks_behind, way_out}
-use Rattle.rc_lang.specs.Program.{Items, More, Thread as ThreadOf}
+use Rattle.rc_lang.specs.Program.{Items, More, Stock, Thread as ThreadOf, no_rows}
 use Rattle.rc_lang.specs.declared.lines.Block.{Block}
 use Rattle.rc_lang.specs.declared.lines.Block.TheVariants.{InLock, InIf, InElse, InPeek, InArm, InLoop}
 use Rattle.rc_lang.specs.declared.lines.Stmt.{Stmt}
@@ -14,7 +15,7 @@ use Rattle.rc_lang.specs.declared.program.Share.{Share}
 use Rattle.rc_read.specs.declared.parts.Region.TheVariants as region
 use Rattle.rc_read.specs.declared.says.Rings.{Rings}
 use Rattle.rc_read.specs.declared.says.Says.{Says}
-use Rattle.rc_read.specs.declared.says.Says.TheVariants.{Version, Ring, File, Buffer, Token, Pool, Thread, Op, Put, Lock, If, Take, Else, Peek, Case, Other, Nothing, Loop, Break, Close}
+use Rattle.rc_read.specs.declared.says.Says.TheVariants.{Version, Ring, File, Buffer, Token, Pool, PoolStock, UnnamedStock, Thread, Op, Put, Lock, If, Take, Else, Peek, Case, Other, Nothing, Loop, Break, Close}
 use Rattle.rc_read.specs.declared.table.Row.{Row}
 use Rattle.rc_read.specs.declared.values.Item.{Item}
 use Rattle.rc_read.specs.declared.values.Item.TheVariants as item
@@ -149,9 +150,21 @@ stmt_in d Loop = stmt.Loop (length d.lists)
 stmt_in d Break = break_out d.blocks
 stmt_in d _ = closing_of (innermost d.blocks)
 
--- the thread that is complete
+-- the thread that is complete; each name in its lines stands for itself
 abbrev pub whole_thread : Draft → ThreadOf
-whole_thread d = record { name = d.name; line = d.line; items = d.items; lists = d.lists; lines = d.lines; ends = d.ends; variables = d.names; flag = d.flag }
+whole_thread d = record { name = d.name; copy = None; line = d.line; items = d.items; lists = d.lists; lines = d.lines; ends = d.ends; variables = d.names; flag = d.flag; rows = no_rows }
+
+-- The threads of its line: it alone, or so many copies, in the order of their numbers.
+abbrev pub copy_of : ThreadOf → ℕ → ThreadOf
+copy_of t copy = record t { name = numbered t.name (Some copy); copy = Some copy }
+
+abbrev pub copies_of : ThreadOf → ℕ → List ThreadOf
+copies_of t zero = []
+copies_of t (suc n) = copies_of t n ++ copy_of t n ∷ []
+
+abbrev pub threads_of : ThreadOf → Option ℕ → List ThreadOf
+threads_of t None = t ∷ []
+threads_of t (Some n) = copies_of t n
 
 -- ---- lines
 
@@ -159,18 +172,27 @@ whole_thread d = record { name = d.name; line = d.line; items = d.items; lists =
 abbrev pub said : Sheet → List Item → Says → Sheet
 said s items what = record s { draft = with_stmt s.draft (s.count + 1) items (stmt_in s.draft what) }
 
--- A closing brace ends the innermost block, and without one the thread.
+-- A closing brace ends the innermost block, and without one the threads of the line.
 abbrev pub closed : Sheet → Option Block → Sheet
-closed s None = record s { region = region.Between; threads = s.threads ++ whole_thread s.draft ∷ []; draft = no_draft }
+closed s None = record s { region = region.Between; threads = s.threads ++ threads_of (whole_thread s.draft) s.draft.copies; draft = no_draft }
 closed s (Some b) = said s [] Close
 
 -- the name that a line declares
 abbrev pub second_of : List (List ℕ) → List ℕ
 second_of ws = unwrap_or (slice_get ws 1) []
 
+-- the name of the threads, where it says how many
+abbrev pub thread_name : Option ℕ → List ℕ → List ℕ
+thread_name None w = w
+thread_name (Some n) w = before_bracket w
+
 -- the head with the rings that a line asks for
 abbrev pub head_with_rings : ℕ → Rings → Head
 head_with_rings version rings = record { version = version; entries = rings.entries; completion_entries = rings.completion_entries; left = rings.left }
+
+-- what the next line says that a pool has at the start
+abbrev pub stock_of : Sheet → Option ℕ → List Item → Stock
+stock_of s pool items = record { pool = pool; line = s.count + 1; items = held items [] }
 
 abbrev pub added : Sheet → List (List ℕ) → List Item → Says → Sheet
 added s ws items (Version n) = record s { region = region.Second; head = record s.head { version = n } }
@@ -179,7 +201,9 @@ added s ws items (File f) = record s { files = s.files ++ f ∷ [] }
 added s ws items (Buffer bytes shares) = record s { buffers = s.buffers ++ record { name = second_of ws; bytes = bytes; shares = shares } ∷ [] }
 added s ws items (Token t) = record s { tokens = s.tokens ++ t ∷ [] }
 added s ws items Pool = record s { pools = s.pools ++ second_of ws ∷ [] }
-added s ws items Thread = record s { region = region.InThread; draft = headed (second_of ws) (s.count + 1) (held items []) }
+added s ws items PoolStock = record s { pools = s.pools ++ second_of ws ∷ []; stock = s.stock ++ stock_of s (Some (length s.pools)) items ∷ [] }
+added s ws items UnnamedStock = record s { stock = s.stock ++ stock_of s None items ∷ [] }
+added s ws items (Thread copies) = record s { region = region.InThread; draft = headed (thread_name copies (second_of ws)) copies (s.count + 1) (held items []) }
 added s ws items Close = closed s (innermost s.draft.blocks)
 added s ws items what = said s items what
 

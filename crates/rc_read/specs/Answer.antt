@@ -33,6 +33,7 @@ program_in s = record {
   buffers = s.buffers;
   tokens = s.tokens;
   pools = s.pools;
+  stock = s.stock;
   threads = s.threads;
 }
 

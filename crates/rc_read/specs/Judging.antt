@@ -11,7 +11,7 @@ use Rattle.rc_read.specs.declared.noted.Noted.{Noted}
 use Rattle.rc_read.specs.declared.noted.Wrong.{Wrong}
 use Rattle.rc_read.specs.declared.values.Value.{Value}
 use Rattle.rc_read.specs.Says.{says_of}
-use Rattle.rc_read.specs.Sentences.{is_unknown, any_unknown, is_double, any_double, any_named_twice, repeats_kind, bad_brace, is_too_long, is_too_deep, is_full, any_full, bad_nesting, bad_case, other_flag, sentences, word_sentences, first_true}
+use Rattle.rc_read.specs.Sentences.{is_unknown, any_unknown, is_double, any_double, any_named_twice, repeats, bad_brace, is_too_long, is_too_deep, is_full, any_full, bad_nesting, bad_case, other_flag, sentences, word_sentences, first_true}
 use Rattle.rc_read.specs.Sheets.{Sheet, with_names}
 use Rattle.rc_read.specs.Spots.{Spot, spots_of}
 use Rattle.rc_read.specs.Table.{parts_of}
@@ -19,7 +19,7 @@ use Rattle.rc_read.specs.Values.{any_lacks, values_of, items_in, flag_in, seen_b
 
 -- What is wrong with the name in a place or is wrong already, and with one in these places.
 abbrev pub wrong_with : Sheet → Part → List ℕ → Wrong → Wrong
-wrong_with s part w wrong = record { unknown = is_unknown s part w || wrong.unknown; double = is_double s part w || wrong.double; full = is_full s part || wrong.full }
+wrong_with s part w wrong = record { unknown = is_unknown s part w || wrong.unknown; double = is_double s part w || wrong.double; full = is_full s part w || wrong.full }
 
 abbrev pub wrong_in : Sheet → List Spot → Wrong
 wrong_in s spots = record { unknown = any_unknown s spots; double = any_double s spots; full = any_full s spots }
@@ -28,7 +28,7 @@ wrong_in s spots = record { unknown = any_unknown s spots; double = any_double s
 abbrev pub later_sentences : Sheet → List ℕ → Wrong → List Item → Says → List (ℕ × Bool)
 later_sentences s line wrong items what =
     (5, wrong.unknown)
-    ∷ (6, wrong.double || any_named_twice items || repeats_kind what)
+    ∷ (6, wrong.double || any_named_twice items || repeats s what)
     ∷ (7, bad_brace s what)
     ∷ (8, is_too_long s line || is_too_deep s what || wrong.full || nat_lt 64 (length s.draft.names))
     ∷ (9, bad_nesting s.draft.blocks items what)

@@ -1,5 +1,5 @@
 -- The fault sentences about a line, given what is above it.
-use Rattle.std.specs.Prelude.{ℕ, List, [], ◌∷◌, length, take, Option, Some, None, Bool, true, false, ◌&&◌, ◌||◌, not, ◌==◌, nat_lt, nat_le, is_none, if◌then◌else◌, codes}
+use Rattle.std.specs.Prelude.{ℕ, ◌+◌, unwrap_or, List, [], ◌∷◌, length, take, Option, Some, None, Bool, true, false, ◌&&◌, ◌||◌, not, ◌==◌, nat_lt, nat_le, is_none, if◌then◌else◌, codes}
 use Rattle.std.specs.List.{list_any}
 use Rattle.std.specs.Str.{bytes_eq}
 use Rattle.rc_lang.specs.Kinds.{is_one_kind, kinds_in}
@@ -7,10 +7,11 @@ use Rattle.rc_lang.specs.Nesting.{breaks_order, innermost, in_peek, directly_in_
 use Rattle.rc_lang.specs.declared.lines.Block.{Block}
 use Rattle.rc_lang.specs.declared.lines.Block.TheVariants.{InIf}
 use Rattle.rc_lang.specs.declared.program.TokenKind.{TokenKind}
+use Rattle.rc_lang.specs.Numbers.{number_of}
 use Rattle.rc_read.specs.declared.parts.Region.{Region}
 use Rattle.rc_read.specs.declared.parts.Region.TheVariants.{Start, Second, Declarations, InThread, Between}
 use Rattle.rc_read.specs.declared.says.Says.{Says}
-use Rattle.rc_read.specs.declared.says.Says.TheVariants.{Token, Thread, Op, Put, Lock, If, Take, Else, Peek, Case, Other, Nothing, Loop, Break, Close}
+use Rattle.rc_read.specs.declared.says.Says.TheVariants.{Token, PoolStock, UnnamedStock, Thread, Op, Put, Lock, If, Take, Else, Peek, Case, Other, Nothing, Loop, Break, Close}
 use Rattle.rc_read.specs.declared.table.Part.{Part}
 use Rattle.rc_read.specs.declared.table.Part.TheVariants as part
 use Rattle.rc_read.specs.declared.table.Row.{Row}
@@ -19,7 +20,7 @@ use Rattle.rc_read.specs.declared.table.Stand.TheVariants as stand
 use Rattle.rc_read.specs.declared.values.Item.{Item}
 use Rattle.rc_read.specs.declared.values.Item.TheVariants as item
 use Rattle.rc_read.specs.Adds.{form_in, places_in, items, says}
-use Rattle.rc_read.specs.Sheets.{Sheet, Draft, with_names, names_behind, is_among, buffer_names, thread_names, has_file, has_token}
+use Rattle.rc_read.specs.Sheets.{Sheet, Draft, with_names, names_behind, is_among, buffer_names, thread_names, has_file, has_token, has_unnamed}
 use Rattle.rc_read.specs.Spots.{Spot}
 use Rattle.rc_read.specs.Table.{stand_of}
 use Rattle.rc_read.specs.Values.{any_lacks, start, user_data_of, file_number_of, before_when, behind_when, flag_in}
@@ -93,7 +94,7 @@ is_unknown s _ w = false
 abbrev pub any_unknown : Sheet → List Spot → Bool
 any_unknown s ps = list_any (λ (p : Spot). is_unknown s p.part p.word) ps
 
--- ---- P6: a file, a buffer, a token, a pool or a thread declared twice, an item named twice in a list, a token in both, two kinds of one word and one buffer
+-- ---- P6: a file, a buffer, a token, a pool or a thread declared twice, an item named twice in a list, a token in both, two kinds of one word and one buffer, a second line of what the pool without a name has
 
 abbrev pub repeats_file : Sheet → Option ℕ → Bool
 repeats_file s None = false
@@ -142,9 +143,11 @@ abbrev pub any_kind_twice : List TokenKind → Bool
 any_kind_twice [] = false
 any_kind_twice (k ∷ ks) = list_any (is_one_kind k) ks || any_kind_twice ks
 
-abbrev pub repeats_kind : Says → Bool
-repeats_kind (Token t) = any_kind_twice (kinds_in t)
-repeats_kind _ = false
+-- What a pool with a name has is said where it is declared, so this is said twice of the one without a name alone.
+abbrev pub repeats : Sheet → Says → Bool
+repeats s (Token t) = any_kind_twice (kinds_in t)
+repeats s UnnamedStock = has_unnamed s.stock
+repeats s _ = false
 
 -- ---- P7: a closing brace without an open block, an else that closes no first branch, a thread in a thread
 
@@ -159,7 +162,7 @@ is_first_branch _ = false
 abbrev pub bad_brace : Sheet → Says → Bool
 bad_brace s Close = not (is_inside s.region)
 bad_brace s Else = not (is_inside s.region && is_first_branch (innermost s.draft.blocks))
-bad_brace s Thread = is_inside s.region
+bad_brace s (Thread copies) = is_inside s.region
 bad_brace s _ = false
 
 -- ---- P8: line 4,097, more than 256 bytes, a 33rd open block, or one thread, buffer, token, file, pool or variable too many
@@ -182,21 +185,26 @@ opens_block _ = false
 abbrev pub is_too_deep : Sheet → Says → Bool
 is_too_deep s what = opens_block what && nat_le 31 (length s.draft.blocks)
 
-abbrev pub is_full : Sheet → Part → Bool
-is_full s part.NewFile = nat_le 16 (length s.files)
-is_full s part.NewBuffer = nat_le 64 (length s.buffers)
-is_full s part.NewToken = nat_le 256 (length s.tokens)
-is_full s part.NewPool = nat_le 16 (length s.pools)
-is_full s part.NewThread = nat_le 16 (length s.threads)
-is_full s _ = false
+-- how many threads there may be, all copies counted
+abbrev pub most_threads : ℕ → ℕ
+most_threads version = if nat_le 5 version then 64 else 16
+
+abbrev pub is_full : Sheet → Part → List ℕ → Bool
+is_full s part.NewFile w = nat_le 16 (length s.files)
+is_full s part.NewBuffer w = nat_le 64 (length s.buffers)
+is_full s part.NewToken w = nat_le 256 (length s.tokens)
+is_full s part.NewPool w = nat_le 16 (length s.pools)
+is_full s part.NewThread w = nat_le (most_threads s.head.version) (length s.threads)
+is_full s part.Copies w = nat_lt 64 (length s.threads + unwrap_or (number_of 1 64 w) 0)
+is_full s _ w = false
 
 abbrev pub any_full : Sheet → List Spot → Bool
-any_full s ps = list_any (λ (p : Spot). is_full s p.part) ps
+any_full s ps = list_any (λ (p : Spot). is_full s p.part p.word) ps
 
 abbrev pub has_too_many_names : Sheet → List Spot → Bool
 has_too_many_names s spots = nat_lt 64 (length (names_behind s.draft.names spots))
 
--- ---- P9: a lock that breaks the order of locks, a peek or a loop in a peek, a break outside a loop, queued entries outside a lock of the submission side, after `when` or in what is put or taken
+-- ---- P9: a lock that breaks the order of locks, a peek or a loop in a peek, a break outside a loop, queued entries outside a lock of the submission side, after `when`, in what is put or taken or in what a pool has at the start
 
 abbrev pub says_queue : Item → Bool
 says_queue (item.Queued k) = true
@@ -209,7 +217,9 @@ abbrev pub bad_nesting : List Block → List Item → Says → Bool
 bad_nesting blocks is (Lock l) = breaks_order blocks l
 bad_nesting blocks is (Peek x) = in_peek blocks
 bad_nesting blocks is Loop = in_peek blocks || (any_queue is && (not (locks_in blocks).sq || any_queue (behind_when is)))
-bad_nesting blocks is Thread = any_queue is
+bad_nesting blocks is PoolStock = any_queue is
+bad_nesting blocks is UnnamedStock = any_queue is
+bad_nesting blocks is (Thread copies) = any_queue is
 bad_nesting blocks is (Put pool) = any_queue is
 bad_nesting blocks is (Take pool) = any_queue is
 bad_nesting blocks is Break = is_none (way_out blocks).loop
@@ -246,7 +256,7 @@ form_sentences s line ws =
     ∷ (3, bad_line s.region (form_in s ws))
     ∷ (4, any_lacks (with_names s (places_in s ws)) start (places_in s ws))
     ∷ (5, any_unknown s (places_in s ws))
-    ∷ (6, any_double s (places_in s ws) || any_named_twice (items s ws) || repeats_kind (says s ws))
+    ∷ (6, any_double s (places_in s ws) || any_named_twice (items s ws) || repeats s (says s ws))
     ∷ (7, bad_brace s (says s ws))
     ∷ (8, is_too_long s line || is_too_deep s (says s ws) || any_full s (places_in s ws) || has_too_many_names s (places_in s ws))
     ∷ (9, bad_nesting s.draft.blocks (items s ws) (says s ws))

@@ -1,5 +1,5 @@
 -- What is above a line.
-use Rattle.std.specs.Prelude.{ℕ, ◌+◌, List, [], ◌∷◌, ◌++◌, map, Option, Some, None, Bool, true, false, not, ◌==◌, if◌then◌else◌}
+use Rattle.std.specs.Prelude.{ℕ, ◌+◌, List, [], ◌∷◌, ◌++◌, map, Option, Some, None, is_none, Bool, true, false, not, ◌==◌, if◌then◌else◌}
 use Rattle.std.specs.List.{list_any}
 use Rattle.std.specs.Str.{bytes_eq}
 use Rattle.rc_lang.specs.declared.lines.Block.{Block}
@@ -7,7 +7,8 @@ use Rattle.rc_lang.specs.declared.lines.Line.{Line}
 use Rattle.rc_lang.specs.declared.program.File.{File}
 use Rattle.rc_lang.specs.declared.program.Head.{Head}
 use Rattle.rc_lang.specs.declared.program.Token.{Token}
-use Rattle.rc_lang.specs.Program.{Buffer, Items, Thread, no_items}
+use Rattle.rc_lang.specs.Names.{before_bracket}
+use Rattle.rc_lang.specs.Program.{Buffer, Items, Stock, Thread, no_items}
 use Rattle.rc_read.specs.declared.parts.Region.{Region}
 use Rattle.rc_read.specs.declared.parts.Region.TheVariants.{Start}
 use Rattle.rc_read.specs.declared.table.Part.{Part}
@@ -20,11 +21,12 @@ pub record Arms : Type 0 where
   pub other : Bool
   pub none : Bool
 
--- A thread so far: its name, the line of its header and what it holds, its lists of items, its variables in the
+-- A thread so far: its name, how many copies its header declares if it says so, the line of the header and what it holds, its lists of items, its variables in the
 -- order of their first uses, the blocks that are open in it (the innermost last), its lines, where the lines that a
 -- jump starts from lead to, the arms of the open peek, and the variable of its first `when`.
 pub record Draft : Type 0 where
   pub name : List ℕ
+  pub copies : Option ℕ
   pub line : ℕ
   pub items : Items
   pub lists : List Items
@@ -36,7 +38,7 @@ pub record Draft : Type 0 where
   pub flag : Option ℕ
 
 -- What is above a line: how many lines, in which part of the model it is, what the head says, what is declared (of
--- pools their names), the finished threads and the open one.
+-- pools their names, and what they have at the start), the finished threads and the open one.
 pub record Sheet : Type 0 where
   pub count : ℕ
   pub region : Region
@@ -45,6 +47,7 @@ pub record Sheet : Type 0 where
   pub buffers : List Buffer
   pub tokens : List Token
   pub pools : List (List ℕ)
+  pub stock : List Stock
   pub threads : List Thread
   pub draft : Draft
 
@@ -52,11 +55,11 @@ abbrev pub no_arms : Arms
 no_arms = record { cases = []; other = false; none = false }
 
 -- a thread's header, before its first line
-abbrev pub headed : List ℕ → ℕ → Items → Draft
-headed name line items = record { name = name; line = line; items = items; lists = []; names = []; blocks = []; lines = []; ends = []; arms = no_arms; flag = None }
+abbrev pub headed : List ℕ → Option ℕ → ℕ → Items → Draft
+headed name copies line items = record { name = name; copies = copies; line = line; items = items; lists = []; names = []; blocks = []; lines = []; ends = []; arms = no_arms; flag = None }
 
 abbrev pub no_draft : Draft
-no_draft = headed [] 0 no_items
+no_draft = headed [] None 0 no_items
 
 -- the sheet above the first line
 abbrev pub empty : Sheet
@@ -68,6 +71,7 @@ empty = record {
   buffers = [];
   tokens = [];
   pools = [];
+  stock = [];
   threads = [];
   draft = no_draft;
 }
@@ -90,8 +94,9 @@ with_name ns word = if is_among ns word then ns else ns ++ word ∷ []
 abbrev pub buffer_names : List Buffer → List (List ℕ)
 buffer_names buffers = map (λ (b : Buffer). b.name) buffers
 
+-- Copies have the name of their line.
 abbrev pub thread_names : List Thread → List (List ℕ)
-thread_names threads = map (λ (t : Thread). t.name) threads
+thread_names threads = map (λ (t : Thread). before_bracket t.name) threads
 
 abbrev pub buffer_number : List Buffer → List ℕ → ℕ
 buffer_number buffers word = number_in (buffer_names buffers) word
@@ -105,6 +110,10 @@ has_file files n = list_any (λ (f : File). f.number == n) files
 
 abbrev pub has_token : List Token → ℕ → Bool
 has_token tokens u = list_any (λ (t : Token). t.user_data == u) tokens
+
+-- What the pool without a name has is said.
+abbrev pub has_unnamed : List Stock → Bool
+has_unnamed stock = list_any (λ (s : Stock). is_none s.pool) stock
 
 -- ---- the variables of a line
 

@@ -4,11 +4,11 @@ use Rattle.std.specs.List.{list_any}
 use Rattle.std.specs.Str.{bytes_eq}
 use Rattle.rc_lang.specs.declared.lines.Comparison.{Comparison}
 use Rattle.rc_lang.specs.declared.lines.Comparison.TheVariants.{Equal, NotEqual, Less, AtMost, Greater, AtLeast}
-use Rattle.rc_lang.specs.Names.{is_name, is_reserved_by}
+use Rattle.rc_lang.specs.Names.{before_bracket, from_bracket, is_name, is_reserved_by}
 use Rattle.rc_lang.specs.Numbers.{is_digit}
 use Rattle.rc_read.specs.declared.fixed.Word.TheVariants.{Or}
 use Rattle.rc_read.specs.declared.table.Part.{Part}
-use Rattle.rc_read.specs.declared.table.Part.TheVariants.{Fixed, Variable, Operand, Comparison as Compare, Buffer, Pool, NewBuffer, NewPool, NewThread, Items, Flag, HeldShares, HeldToken, Credits, Queued, Kinds, KindWord, ReadBuffer, WriteShares}
+use Rattle.rc_read.specs.declared.table.Part.TheVariants.{Fixed, Variable, Operand, Comparison as Compare, Buffer, Pool, NewBuffer, NewPool, NewThread, NewThreads, Copies, Items, Flag, HeldShares, HeldToken, Credits, Queued, Kinds, KindWord, ReadBuffer, WriteShares}
 use Rattle.rc_read.specs.declared.table.Row.{Row}
 use Rattle.rc_read.specs.Table.{text_of, parts_of, rows, version_of}
 
@@ -28,6 +28,20 @@ abbrev pub begins_number : List ℕ → Bool
 begins_number [] = false
 begins_number (b ∷ bytes) = is_digit b || b == 45
 
+-- `NAME[N]`: a name, and after it in brackets what begins as a number does.
+abbrev pub opens_bracket : List ℕ → Bool
+opens_bracket [] = false
+opens_bracket (b ∷ bytes) = b == 91
+
+abbrev pub in_brackets : List ℕ → List ℕ
+in_brackets w = before_bracket (drop 1 (from_bracket w))
+
+abbrev pub closing_in : List ℕ → List ℕ
+closing_in w = from_bracket (drop 1 (from_bracket w))
+
+abbrev pub names_copies : List ℕ → Bool
+names_copies w = is_name (before_bracket w) && opens_bracket (from_bracket w) && begins_number (in_brackets w) && bytes_eq (closing_in w) (codes "]")
+
 -- a kind's first word
 abbrev pub is_kind_word : List ℕ → Bool
 is_kind_word w = bytes_eq w (codes "read") || bytes_eq w (codes "write") || bytes_eq w (codes "fsync") || bytes_eq w (codes "nop") || bytes_eq w (codes "other")
@@ -42,6 +56,7 @@ fits Pool w = is_name w
 fits NewBuffer w = is_name w
 fits NewPool w = is_name w
 fits NewThread w = is_name w
+fits NewThreads w = names_copies w
 fits Operand w = begins_number w || is_name w
 fits Compare w = is_some (comparison_of w)
 fits KindWord w = is_kind_word w
@@ -99,10 +114,15 @@ abbrev pub is_fixed : Part → Bool
 is_fixed (Fixed fixed) = true
 is_fixed _ = false
 
--- The place of a part's word. A fixed word has none.
+-- The places in a word: of threads with one name their name and their number, and else the word is one.
+abbrev pub spots_of_word : Part → List ℕ → List Spot
+spots_of_word NewThreads w = record { part = NewThread; word = before_bracket w } ∷ record { part = Copies; word = in_brackets w } ∷ []
+spots_of_word part w = record { part = part; word = w } ∷ []
+
+-- The places of a part's word. A fixed word has none.
 abbrev pub spot_of_part : Part → List (List ℕ) → List Spot
 spot_of_part part [] = []
-spot_of_part part (w ∷ ws) = if is_fixed part then [] else record { part = part; word = w } ∷ []
+spot_of_part part (w ∷ ws) = if is_fixed part then [] else spots_of_word part w
 
 -- The words after it, where it is there.
 abbrev pub behind_one : Part → List (List ℕ) → Option (List (List ℕ))

@@ -4,7 +4,7 @@ use Rattle.std.specs.Borrow.{Bor}
 use Rattle.std.specs.Global.{Vec}
 use Rattle.rc_lang.specs.Program.{Items}
 use Rattle.rc_lang.specs.declared.program.Items.{Items as ItemsPart}
-use Rattle.rc_read.specs.Adds.{added, counted, held, second_of}
+use Rattle.rc_read.specs.Adds.{added, counted, held, second_of, stock_of, thread_name}
 use Rattle.rc_read.specs.Judging.{JudgesRow, JudgesWords, wrong_in}
 use Rattle.rc_read.specs.Pieces.{ReadsMore}
 use Rattle.rc_read.specs.Sheets.{Sheet, headed, with_names}
@@ -36,8 +36,11 @@ AddsLine r old words items what new = Becomes r new (added (view_sheet old) (tex
 abbrev pub CountsLine : {X E : Type 0} → Result X E → Parts → List (Bor (List ℕ)) → List Item → Says → Parts → Type 0
 CountsLine r old words items what new = Becomes r new (counted (added (view_sheet old) (texts_of words) items what))
 
-abbrev pub OpensThread : {E : Type 0} → Result DraftPart E → List (Bor (List ℕ)) → ℕ → List Item → Type 0
-OpensThread r words line items = IfOk r (λ d. view_draft d ≡ headed (second_of (texts_of words)) line (held items []))
+abbrev pub AddsStock : {X E : Type 0} → Result X E → Parts → Option ℕ → List Item → Parts → Type 0
+AddsStock r old pool items new = Becomes r new (record (view_sheet old) { stock = (view_sheet old).stock ++ stock_of (view_sheet old) pool items ∷ [] })
+
+abbrev pub OpensThread : {E : Type 0} → Result DraftPart E → List (Bor (List ℕ)) → Option ℕ → ℕ → List Item → Type 0
+OpensThread r words copies line items = IfOk r (λ d. view_draft d ≡ headed (thread_name copies (second_of (texts_of words))) copies line (held items []))
 
 abbrev pub AddsList : {X E : Type 0} → Result X E → Vec ItemsPart → Vec ItemsPart → Items → Type 0
 AddsList r old new items = OnOk r (view_lists new ≡ view_lists old ++ items ∷ [])

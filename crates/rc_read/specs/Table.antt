@@ -2,7 +2,7 @@
 -- form, and where in a model it may be.
 use Rattle.std.specs.Prelude.{ℕ, List, [], ◌∷◌, ◌++◌, codes}
 use Rattle.rc_read.specs.declared.table.Part.{Part}
-use Rattle.rc_read.specs.declared.table.Part.TheVariants.{Fixed, Variable, Operand, Comparison, Signed, Number, File, Buffer, Token, Pool, NewFile, NewBuffer, NewToken, NewPool, NewThread, Items, Flag, Kinds}
+use Rattle.rc_read.specs.declared.table.Part.TheVariants.{Fixed, Variable, Operand, Comparison, Signed, Number, File, Buffer, Token, Pool, NewFile, NewBuffer, NewToken, NewPool, NewThread, NewThreads, Items, Flag, Kinds}
 use Rattle.rc_read.specs.declared.table.Range.TheVariants.{Within, Size, CompletionSize, Rounded, Entries, Shares}
 use Rattle.rc_read.specs.declared.table.Row.{Row}
 use Rattle.rc_read.specs.declared.table.Row.TheVariants as row
@@ -96,7 +96,10 @@ parts_of row.TokenNop = Fixed words.Token ∷ NewToken ∷ Fixed words.Nop ∷ [
 parts_of row.TokenOther = Fixed words.Token ∷ NewToken ∷ Fixed words.Other ∷ []
 parts_of row.TokenKinds = Fixed words.Token ∷ NewToken ∷ Kinds ∷ []
 parts_of row.Pool = Fixed words.Pool ∷ NewPool ∷ []
+parts_of row.PoolStock = Fixed words.Pool ∷ NewPool ∷ Fixed words.Holds ∷ Items ∷ []
+parts_of row.UnnamedStock = Fixed words.Pool ∷ Fixed words.Holds ∷ Items ∷ []
 parts_of row.Thread = Fixed words.Thread ∷ NewThread ∷ Fixed words.Holds ∷ Items ∷ Fixed words.Open ∷ []
+parts_of row.Threads = Fixed words.Thread ∷ NewThreads ∷ Fixed words.Holds ∷ Items ∷ Fixed words.Open ∷ []
 parts_of row.Set = Variable ∷ Fixed words.Is ∷ Operand ∷ []
 parts_of row.Add = Variable ∷ Fixed words.Is ∷ Operand ∷ Fixed words.Plus ∷ Operand ∷ []
 parts_of row.Subtract = Variable ∷ Fixed words.Is ∷ Operand ∷ Fixed words.Minus ∷ Operand ∷ []
@@ -151,6 +154,9 @@ version_of row.TokenKinds = 5
 version_of row.PrepOther = 5
 version_of row.CqeGetData64 = 5
 version_of row.IfAny = 5
+version_of row.Threads = 5
+version_of row.PoolStock = 5
+version_of row.UnnamedStock = 5
 version_of _ = 1
 
 abbrev pub stand_of : Row → Stand
@@ -172,7 +178,10 @@ stand_of row.TokenNop = stand.Declaration
 stand_of row.TokenOther = stand.Declaration
 stand_of row.TokenKinds = stand.Declaration
 stand_of row.Pool = stand.Declaration
+stand_of row.PoolStock = stand.Declaration
+stand_of row.UnnamedStock = stand.Declaration
 stand_of row.Thread = stand.Header
+stand_of row.Threads = stand.Header
 stand_of row.Else = stand.Brace
 stand_of row.Close = stand.Brace
 stand_of _ = stand.Inside
@@ -181,8 +190,8 @@ stand_of _ = stand.Inside
 abbrev pub fixed_rows : List Row
 fixed_rows =
     row.Close ∷ row.Else ∷ row.Break ∷ row.GetSqe ∷ row.CqeSeen ∷ row.Case ∷ row.CqeGetData64 ∷ row.PrepNop ∷ row.PrepOther ∷ row.Peek ∷ row.Print ∷ row.PrepRead ∷ row.PrepWrite
-    ∷ row.PrepFsync ∷ row.Put ∷ row.PutNamed ∷ row.Pool ∷ row.Lock ∷ row.Loop ∷ row.LoopWhen ∷ row.LockSq ∷ row.LockCq ∷ row.Other ∷ row.Nothing ∷ row.SetData64 ∷ row.Store ∷ row.Fill ∷ row.IfReady ∷ row.If ∷ row.IfSpace ∷ row.IfTake ∷ row.IfTakeNamed ∷ row.IfAny
-    ∷ row.Thread ∷ row.TokenRead ∷ row.TokenWrite ∷ row.TokenFsync ∷ row.TokenNop ∷ row.TokenOther ∷ row.TokenKinds ∷ row.File ∷ row.Buffer ∷ row.Ring ∷ row.RingCq ∷ row.RingLeft
+    ∷ row.PrepFsync ∷ row.Put ∷ row.PutNamed ∷ row.Pool ∷ row.PoolStock ∷ row.UnnamedStock ∷ row.Lock ∷ row.Loop ∷ row.LoopWhen ∷ row.LockSq ∷ row.LockCq ∷ row.Other ∷ row.Nothing ∷ row.SetData64 ∷ row.Store ∷ row.Fill ∷ row.IfReady ∷ row.If ∷ row.IfSpace ∷ row.IfTake ∷ row.IfTakeNamed ∷ row.IfAny
+    ∷ row.Thread ∷ row.Threads ∷ row.TokenRead ∷ row.TokenWrite ∷ row.TokenFsync ∷ row.TokenNop ∷ row.TokenOther ∷ row.TokenKinds ∷ row.File ∷ row.Buffer ∷ row.Ring ∷ row.RingCq ∷ row.RingLeft
     ∷ row.RingCqLeft ∷ row.Version ∷ row.SecondVersion ∷ row.ThirdVersion ∷ row.FourthVersion ∷ row.FifthVersion ∷ []
 
 abbrev pub assignments : List Row

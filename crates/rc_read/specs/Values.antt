@@ -109,6 +109,7 @@ value_at s seen part.Credits w = item_value item.Credits (number_of 0 2048 w)
 value_at s seen part.Queued w = item_value item.Queued (number_of 0 s.head.entries w)
 value_at s seen part.KindWord w = Some (kind_alone w)
 value_at s seen part.ReadBuffer w = Some (Kind (kind.Read (buffer_number s.buffers w)))
+value_at s seen part.Copies w = small_value (number_of 1 64 w)
 value_at s seen part.WriteShares w = write_value seen (share_number seen.shares w)
 value_at s seen _ w = Some Nothing
 

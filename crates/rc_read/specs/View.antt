@@ -2,7 +2,7 @@
 use Rattle.std.specs.Prelude.{List, map}
 use Rattle.std.specs.Global.{Vec}
 use Rattle.rc_lang.specs.Nesting.{Way}
-use Rattle.rc_lang.specs.Parts.{view_buffer, view_items, view_names, view_thread}
+use Rattle.rc_lang.specs.Parts.{view_buffer, view_items, view_names, view_stock, view_thread}
 use Rattle.rc_lang.specs.Program.{Items}
 use Rattle.rc_lang.specs.declared.program.Items.{Items as ItemsPart}
 use Rattle.rc_read.specs.Sheets.{Sheet, Draft, Arms}
@@ -20,6 +20,7 @@ view_arms a = record { cases = a.cases.items; other = a.other; none = a.none }
 abbrev pub view_draft : DraftPart → Draft
 view_draft d = record {
   name = d.name.items;
+  copies = d.copies;
   line = d.line;
   items = view_items d.items;
   lists = view_lists d.lists;
@@ -40,6 +41,7 @@ view_sheet p = record {
   buffers = map view_buffer p.buffers.items;
   tokens = p.tokens.items;
   pools = view_names p.pools.items;
+  stock = map view_stock p.stock.items;
   threads = map view_thread p.threads.items;
   draft = view_draft p.draft;
 }

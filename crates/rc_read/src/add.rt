@@ -2,16 +2,18 @@
 
 ghost use Rattle.std.specs.Prelude.{◌≡◌, ◌<◌, [], None, OnOk};
 ghost use Rattle.rc_read.specs.Adds as spec;
-ghost use Rattle.rc_read.specs.Steps.{AddsLine, Becomes, CountsLine, OpensThread};
+ghost use Rattle.rc_read.specs.Steps.{AddsLine, AddsStock, Becomes, CountsLine, OpensThread};
 ghost use Rattle.rc_read.specs.Texts.{texts_of};
 ghost use Rattle.rc_read.specs.View.{view_sheet};
 
 use crate::blocks::innermost;
+use crate::copies::push_threads;
 use crate::draft::held;
 use crate::parts::{Draft, Parts, Region};
 use crate::says::{Rings, Says};
 use crate::values::Item;
-use rc_lang::program::{Buffer, Head};
+use rc_lang::names::cut_at_bracket;
+use rc_lang::program::{Buffer, Head, Stock};
 use std::alloc::{AllocError, Global};
 use std::mem;
 
@@ -37,17 +39,29 @@ fn head_with_rings(version: u32, rings: Rings) -> Head
     }
 }
 
-// A thread whose header has these words and items and is on this line.
+// The name of the threads that this word declares, where it says how many.
+fn thread_name(copies: Option<u32>, word: &[u8]) -> &[u8]
+    ensures { result.now ≡ spec.thread_name copies word.now }
+{
+    match copies {
+        None => word,
+        Some(_) => cut_at_bracket(word).0,
+    }
+}
+
+// A thread, or so many copies of one, whose header has these words and items and is on this line.
 fn open_thread(
     alloc: Global,
     words: &[&[u8]],
+    copies: Option<u32>,
     items: &[Item],
     line: u32,
 ) -> Result<Draft, AllocError>
-    ensures { OpensThread result words.now line items.now }
+    ensures { OpensThread result words.now copies line items.now }
 {
     Ok(Draft {
-        name: Vec::from_slice(alloc, second_of(words))?,
+        name: Vec::from_slice(alloc, thread_name(copies, second_of(words)))?,
+        copies,
         line,
         items: held(alloc, items)?,
         ..Draft::new(alloc)
@@ -65,13 +79,15 @@ impl Parts {
         self.draft.put(alloc, self.count + 1, items, stmt)
     }
 
-    // Closes the thread.
+    // Closes the thread, and with it the copies of its line.
     fn end_thread(&mut self, alloc: Global) -> Result<(), AllocError>
         ensures ok { OnOk result (view_sheet self.new ≡ spec.closed (view_sheet self.old) None) }
         ensures count { self.new.count ≡ self.old.count }
     {
         let draft = mem::replace(&mut self.draft, Draft::new(alloc));
-        self.threads.push(draft.into_thread(alloc)?)?;
+        let copies = draft.copies;
+        let thread = draft.into_thread(alloc)?;
+        push_threads(alloc, &mut self.threads, thread, copies)?;
         self.region = Region::Between;
         Ok(())
     }
@@ -88,13 +104,19 @@ impl Parts {
         }
     }
 
-    // Opens a thread.
-    fn open(&mut self, alloc: Global, words: &[&[u8]], items: &[Item]) -> Result<(), AllocError>
+    // Opens a thread, or so many copies of one.
+    fn open(
+        &mut self,
+        alloc: Global,
+        words: &[&[u8]],
+        copies: Option<u32>,
+        items: &[Item],
+    ) -> Result<(), AllocError>
         requires { self.old.count < 4096 }
-        ensures ok { AddsLine result self.old words.now items.now Says.Thread self.new }
+        ensures ok { AddsLine result self.old words.now items.now (Says.Thread copies) self.new }
         ensures count { self.new.count ≡ self.old.count }
     {
-        self.draft = open_thread(alloc, words, items, self.count + 1)?;
+        self.draft = open_thread(alloc, words, copies, items, self.count + 1)?;
         self.region = Region::InThread;
         Ok(())
     }
@@ -128,6 +150,39 @@ impl Parts {
         Ok(())
     }
 
+    // Adds what a pool has at the start: the one with this number, or the one without a name.
+    fn stock(
+        &mut self,
+        alloc: Global,
+        pool: Option<usize>,
+        items: &[Item],
+    ) -> Result<(), AllocError>
+        requires { self.old.count < 4096 }
+        ensures ok { AddsStock result self.old pool items.now self.new }
+        ensures count { self.new.count ≡ self.old.count }
+    {
+        let items = held(alloc, items)?;
+        let line = self.count + 1;
+        self.stock.push(Stock { pool, line, items })?;
+        Ok(())
+    }
+
+    // Declares a pool, and what it has at the start.
+    fn put_stocked(
+        &mut self,
+        alloc: Global,
+        words: &[&[u8]],
+        items: &[Item],
+    ) -> Result<(), AllocError>
+        requires { self.old.count < 4096 }
+        ensures ok { AddsLine result self.old words.now items.now Says.PoolStock self.new }
+        ensures count { self.new.count ≡ self.old.count }
+    {
+        let pool = self.pools.len();
+        self.stock(alloc, Some(pool), items)?;
+        self.put_pool(alloc, words)
+    }
+
     fn put(
         &mut self,
         alloc: Global,
@@ -154,7 +209,9 @@ impl Parts {
             Says::Buffer(bytes, shares) => self.put_buffer(alloc, words, bytes, shares),
             Says::Token(token) => Ok(self.tokens.push(token)?),
             Says::Pool => self.put_pool(alloc, words),
-            Says::Thread => self.open(alloc, words, items),
+            Says::PoolStock => self.put_stocked(alloc, words, items),
+            Says::UnnamedStock => self.stock(alloc, None, items),
+            Says::Thread(copies) => self.open(alloc, words, copies, items),
             Says::Close => self.close(alloc),
             Says::Op(_) | Says::Put(_) | Says::Lock(_) => self.say(alloc, items, says),
             Says::If(_) | Says::Take(_) => self.say(alloc, items, says),

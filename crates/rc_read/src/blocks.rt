@@ -181,9 +181,10 @@ pub fn bad_brace(parts: &Parts, says: Says) -> bool
         Says::Else => {
             !(is_inside(parts.region) && is_first_branch(innermost(&parts.draft.blocks)))
         }
-        Says::Thread => is_inside(parts.region),
+        Says::Thread(_) => is_inside(parts.region),
         Says::Version(_) | Says::Ring(_) | Says::File(_) | Says::Buffer(_, _) => false,
-        Says::Token(_) | Says::Pool | Says::Op(_) | Says::Put(_) | Says::Lock(_) => false,
+        Says::Token(_) | Says::Pool | Says::PoolStock | Says::UnnamedStock => false,
+        Says::Op(_) | Says::Put(_) | Says::Lock(_) => false,
         Says::If(_) | Says::Take(_) | Says::Peek(_) | Says::Case(_) | Says::Other => false,
         Says::Nothing | Says::Loop | Says::Break => false,
     }
@@ -203,7 +204,8 @@ fn opens_block(says: Says) -> bool
         Says::Lock(_) | Says::If(_) | Says::Take(_) | Says::Peek(_) | Says::Loop => true,
         Says::Case(_) | Says::Other | Says::Nothing => true,
         Says::Version(_) | Says::Ring(_) | Says::File(_) | Says::Buffer(_, _) => false,
-        Says::Token(_) | Says::Pool | Says::Thread | Says::Op(_) | Says::Put(_) => false,
+        Says::Token(_) | Says::Pool | Says::PoolStock | Says::UnnamedStock => false,
+        Says::Thread(_) | Says::Op(_) | Says::Put(_) => false,
         Says::Else | Says::Break | Says::Close => false,
     }
 }
@@ -226,7 +228,8 @@ pub fn bad_nesting(draft: &Draft, items: &[Item], says: Says) -> bool
         Says::Loop => {
             in_peek(blocks) || (any_queue(items) && (!in_sq(blocks) || any_queue(parted(items).1)))
         }
-        Says::Thread | Says::Put(_) | Says::Take(_) => any_queue(items),
+        Says::PoolStock | Says::UnnamedStock => any_queue(items),
+        Says::Thread(_) | Says::Put(_) | Says::Take(_) => any_queue(items),
         Says::Break => way_out(blocks).place.is_none(),
         Says::Version(_) | Says::Ring(_) | Says::File(_) | Says::Buffer(_, _) => false,
         Says::Token(_) | Says::Pool | Says::Op(_) | Says::If(_) | Says::Else => false,
@@ -254,6 +257,7 @@ pub fn bad_case(draft: &Draft, says: Says) -> bool
         Says::Op(_) | Says::Lock(_) | Says::If(_) | Says::Peek(_) => directly,
         Says::Put(_) | Says::Take(_) | Says::Loop | Says::Break => directly,
         Says::Version(_) | Says::Ring(_) | Says::File(_) | Says::Buffer(_, _) => false,
-        Says::Token(_) | Says::Pool | Says::Thread | Says::Else => false,
+        Says::Token(_) | Says::Pool | Says::PoolStock | Says::UnnamedStock => false,
+        Says::Thread(_) | Says::Else => false,
     }
 }

@@ -15,6 +15,7 @@ use crate::values::Item;
 use indexmap::IndexSet;
 use rc_lang::lines::{Block, Line, Locks, Stmt, Test};
 use rc_lang::program::{Items, More, Share, Thread};
+use rc_lang::rows::Rows;
 use std::alloc::{AllocError, Global};
 
 // What a list of items holds, and nothing besides.
@@ -278,7 +279,8 @@ impl Draft {
             Says::Loop => Stmt::Loop(self.lists.len()),
             Says::Break => break_out(&self.blocks),
             Says::Version(_) | Says::Ring(_) | Says::File(_) => closing_of(block),
-            Says::Buffer(_, _) | Says::Token(_) | Says::Pool | Says::Thread => closing_of(block),
+            Says::Buffer(_, _) | Says::Token(_) | Says::Thread(_) => closing_of(block),
+            Says::Pool | Says::PoolStock | Says::UnnamedStock => closing_of(block),
             Says::Close => closing_of(block),
         }
     }
@@ -304,13 +306,14 @@ impl Draft {
         Ok(())
     }
 
-    // The thread that is complete.
+    // The thread that is complete. Each name in its lines stands for itself.
     pub fn into_thread(self, alloc: Global) -> Result<Thread, AllocError>
         ensures { IfOk result (λ t. view_thread t ≡ spec.whole_thread (view_draft self)) }
     {
         let variables = listed(alloc, self.names)?;
         Ok(Thread {
             name: self.name,
+            copy: None,
             line: self.line,
             items: self.items,
             lists: self.lists,
@@ -318,6 +321,11 @@ impl Draft {
             ends: self.ends,
             variables,
             flag: self.flag,
+            rows: Rows {
+                buffers: Vec::new(alloc),
+                tokens: Vec::new(alloc),
+                members: Vec::new(alloc),
+            },
         })
     }
 }

@@ -13,8 +13,9 @@ ghost use Rattle.rc_read.specs.View.{view_sheet};
 
 use crate::blocks::{bad_brace, bad_case, bad_nesting, is_too_deep, is_too_long, may_stand};
 use crate::fault::{ReadCause, ReadFault};
-use crate::kinds::repeats_kind;
+use crate::kinds::names_kind_twice;
 use crate::lists::{any_named_twice, flag_in};
+use crate::names::has_unnamed;
 use crate::noted::{Wrong, put_values};
 use crate::parts::{Parts, Region};
 use crate::says::{Says, says_of};
@@ -97,6 +98,17 @@ fn other_flag(flag: Option<usize>, items: &[Item]) -> bool
     }
 }
 
+// Whether a line says a second time what there is once: a kind of a token, and what the pool without a name has.
+fn repeats(parts: &Parts, says: Says) -> bool
+    ensures { result ≡ spec.repeats (view_sheet parts.now) says }
+{
+    match says {
+        Says::Token(token) => names_kind_twice(token),
+        Says::UnnamedStock => has_unnamed(&parts.stock),
+        _ => false,
+    }
+}
+
 // The cause of the first sentence from the fifth on that is true of a line, where the parts have its variables.
 fn later_cause(
     parts: &Parts,
@@ -109,7 +121,7 @@ fn later_cause(
 {
     if wrong.unknown {
         Some(ReadCause::UnknownName)
-    } else if wrong.double || any_named_twice(items) || repeats_kind(says) {
+    } else if wrong.double || any_named_twice(items) || repeats(parts, says) {
         Some(ReadCause::DoubleName)
     } else if bad_brace(parts, says) {
         Some(ReadCause::Braces)

@@ -9,7 +9,6 @@ ghost use Rattle.rc_read.specs.Texts.{texts_of};
 ghost use Rattle.rc_read.specs.Values as values;
 
 use crate::fixed::Word;
-use crate::says::Says;
 use crate::table::Part;
 use crate::values::Value;
 use crate::words::is;
@@ -116,18 +115,9 @@ fn any_kind_twice(others: &[Option<TokenKind>]) -> bool
     false
 }
 
-fn names_kind_twice(token: Token) -> bool
+/// Whether two kinds of a token are of one word, and of one buffer where it has one.
+pub fn names_kind_twice(token: Token) -> bool
     ensures { result ≡ sentences.any_kind_twice (kinds.kinds_in token) }
 {
     is_among(token.kind, &token.others) || any_kind_twice(&token.others)
-}
-
-/// Whether a line declares a token, two of whose kinds are of one word, and of one buffer where it has one.
-pub fn repeats_kind(says: Says) -> bool
-    ensures { result ≡ sentences.repeats_kind says }
-{
-    match says {
-        Says::Token(token) => names_kind_twice(token),
-        _ => false,
-    }
 }

@@ -3,6 +3,8 @@
 
 mod add;
 mod blocks;
+mod brackets;
+mod copies;
 mod draft;
 mod fault;
 pub mod fixed;

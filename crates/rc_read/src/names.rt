@@ -2,12 +2,12 @@
 
 ghost use Rattle.std.specs.Prelude.{◌≡◌, map, IfOk, OnOk};
 ghost use Rattle.std.specs.Str.{bytes_eq};
-ghost use Rattle.rc_lang.specs.Parts.{view_buffer, view_names, view_thread};
+ghost use Rattle.rc_lang.specs.Parts.{view_buffer, view_names, view_stock, view_thread};
 ghost use Rattle.rc_read.specs.Sheets as spec;
 
 use crate::words::is;
 use indexmap::IndexSet;
-use rc_lang::program::{Buffer, File, Thread, Token};
+use rc_lang::program::{Buffer, File, Stock, Thread, Token};
 use std::alloc::{AllocError, Global};
 
 // Whether a word is this name. The names of a model often differ in their last byte alone, so that is compared first.
@@ -55,12 +55,24 @@ pub fn find_pool(pools: &[Vec<u8>], word: &[u8]) -> (usize, bool)
     (pools.len(), false)
 }
 
-/// Whether a complete thread has this name.
+/// Whether a complete thread has this name, or is a copy of a line with this name.
 pub fn has_thread(threads: &[Thread], word: &[u8]) -> bool
     ensures { result ≡ spec.is_among (spec.thread_names (map view_thread threads.now)) word.now }
 {
     for thread in threads {
-        if is(&thread.name, word) {
+        if is(thread.declared_name(), word) {
+            return true;
+        }
+    }
+    false
+}
+
+/// Whether a line says what the pool without a name has at the start.
+pub fn has_unnamed(stock: &[Stock]) -> bool
+    ensures { result ≡ spec.has_unnamed (map view_stock stock.now) }
+{
+    for line in stock {
+        if line.pool.is_none() {
             return true;
         }
     }

@@ -226,14 +226,33 @@ fn look_at_new_pool(parts: &Parts, noted: &mut Noted, word: &[u8]) -> Option<Val
     Some(Value::Nothing)
 }
 
+// How many threads there may be in this version, all copies counted.
+fn most_threads(version: u32) -> usize
+    ensures { result ≡ sentences.most_threads version }
+{
+    if version >= 5 { 64 } else { 16 }
+}
+
 fn look_at_new_thread(parts: &Parts, noted: &mut Noted, word: &[u8]) -> Option<Value>
     ensures value { IsValue (view_sheet parts.now) Part.NewThread word.now noted.old result }
     ensures seen { noted.new.seen ≡ noted.old.seen }
     ensures wrong { IsWrong (view_sheet parts.now) Part.NewThread word.now noted.old noted.new }
 {
     let double = has_thread(&parts.threads, word) || is(&parts.draft.name, word);
-    noted.repeat(double, parts.threads.len() >= 16);
+    let full = parts.threads.len() >= most_threads(parts.head.version);
+    noted.repeat(double, full);
     Some(Value::Nothing)
+}
+
+fn look_at_copies(parts: &Parts, noted: &mut Noted, word: &[u8]) -> Option<Value>
+    ensures value { IsValue (view_sheet parts.now) Part.Copies word.now noted.old result }
+    ensures seen { noted.new.seen ≡ noted.old.seen }
+    ensures wrong { IsWrong (view_sheet parts.now) Part.Copies word.now noted.old noted.new }
+{
+    let copies = small_number_of(1, 64, word);
+    let full = parts.threads.len() + copies.unwrap_or(0) as usize > 64;
+    noted.repeat(false, full);
+    small_value(copies)
 }
 
 // The number of a variable, which is added where it is new.
@@ -271,7 +290,7 @@ fn look_at(
     ensures sheet { AddsName result parts.old part word.now parts.new }
 {
     Ok(match part {
-        Part::Fixed(_) | Part::Items | Part::Kinds => Some(Value::Nothing),
+        Part::Fixed(_) | Part::Items | Part::Kinds | Part::NewThreads => Some(Value::Nothing),
         Part::Variable => Some(Value::Named(variable_of(alloc, parts, word)?)),
         Part::Operand => operand_of(alloc, parts, word)?,
         Part::Comparison => Some(comparison_value(comparison_of(word))),
@@ -287,6 +306,7 @@ fn look_at(
         Part::NewToken => look_at_new_token(parts, noted, word),
         Part::NewPool => look_at_new_pool(parts, noted, word),
         Part::NewThread => look_at_new_thread(parts, noted, word),
+        Part::Copies => look_at_copies(parts, noted, word),
         Part::Flag => {
             let variable = variable_of(alloc, parts, word)?;
             Some(Value::Item(Item::When(variable)))

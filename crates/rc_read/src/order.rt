@@ -22,8 +22,10 @@ pub fn stand_of(row: Row) -> Stand
         | Row::TokenNop
         | Row::TokenOther
         | Row::TokenKinds
-        | Row::Pool => Stand::Declaration,
-        Row::Thread => Stand::Header,
+        | Row::Pool
+        | Row::PoolStock
+        | Row::UnnamedStock => Stand::Declaration,
+        Row::Thread | Row::Threads => Stand::Header,
         Row::Else | Row::Close => Stand::Brace,
         Row::Set | Row::Add | Row::Subtract | Row::Load | Row::Store | Row::Fill => Stand::Inside,
         Row::Print | Row::Lock | Row::GetSqe | Row::PrepRead | Row::PrepWrite => Stand::Inside,
@@ -49,6 +51,7 @@ pub fn version_of(row: Row) -> u32
         Row::Put | Row::IfTake => 3,
         Row::Pool | Row::PutNamed | Row::LockSq | Row::LockCq | Row::IfTakeNamed => 4,
         Row::TokenOther | Row::TokenKinds | Row::PrepOther | Row::CqeGetData64 | Row::IfAny => 5,
+        Row::Threads | Row::PoolStock | Row::UnnamedStock => 5,
         _ => 1,
     }
 }
@@ -73,6 +76,8 @@ pub fn rows_of(first: u8) -> &'static [Row]
             Row::Put,
             Row::PutNamed,
             Row::Pool,
+            Row::PoolStock,
+            Row::UnnamedStock,
         ],
         b'l' => &[
             Row::Lock,
@@ -95,6 +100,7 @@ pub fn rows_of(first: u8) -> &'static [Row]
         ],
         b't' => &[
             Row::Thread,
+            Row::Threads,
             Row::TokenRead,
             Row::TokenWrite,
             Row::TokenFsync,

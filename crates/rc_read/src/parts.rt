@@ -5,7 +5,7 @@ ghost use Rattle.std.specs.Prelude.{◌≤◌};
 use crate::fault::ReadFault;
 use indexmap::IndexSet;
 use rc_lang::lines::{Block, Line};
-use rc_lang::program::{Buffer, File, Head, Items, More, Thread, Token};
+use rc_lang::program::{Buffer, File, Head, Items, More, Stock, Thread, Token};
 use std::alloc::Global;
 
 /// The part of a model in which a line is.
@@ -35,6 +35,8 @@ pub struct Arms {
 #[derive(Drop)]
 pub struct Draft {
     pub name: Vec<u8>,
+    /// How many copies its header declares, where it says so.
+    pub copies: Option<u32>,
     pub line: u32,
     pub items: Items,
     pub lists: Vec<Items>,
@@ -57,6 +59,7 @@ pub struct Parts {
     pub buffers: Vec<Buffer>,
     pub tokens: Vec<Token>,
     pub pools: Vec<Vec<u8>>,
+    pub stock: Vec<Stock>,
     pub threads: Vec<Thread>,
     pub draft: Draft,
     ghost few_lines: { count ≤ 4096 },
@@ -97,6 +100,7 @@ impl Draft {
     {
         Draft {
             name: Vec::new(alloc),
+            copies: None,
             line: 0,
             items: Items {
                 shares: Vec::new(alloc),
@@ -142,6 +146,7 @@ impl Parts {
             buffers: Vec::new(alloc),
             tokens: Vec::new(alloc),
             pools: Vec::new(alloc),
+            stock: Vec::new(alloc),
             threads: Vec::new(alloc),
             draft: Draft::new(alloc),
         }

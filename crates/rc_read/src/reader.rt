@@ -106,6 +106,7 @@ fn program_in(parts: Parts) -> Program
         buffers: parts.buffers,
         tokens: parts.tokens,
         pools: parts.pools,
+        stock: parts.stock,
     };
     Program::new(parts.head, declarations, parts.threads)
 }

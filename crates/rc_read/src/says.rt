@@ -28,7 +28,11 @@ pub enum Says {
     Buffer(u32, u32),
     Token(Token),
     Pool,
-    Thread,
+    /// A pool with what it has at the start, and what the one without a name has.
+    PoolStock,
+    UnnamedStock,
+    /// How many copies of the thread there are, where the line says so.
+    Thread(Option<u32>),
     Op(Op),
     /// The number of the declared pool, none for the pool without a name.
     Put(Option<usize>),
@@ -203,7 +207,10 @@ pub fn says_of(row: Row, v: &[Value]) -> Says
         Row::TokenOther => of_one(user_data(v, 0), TokenKind::Other),
         Row::TokenKinds => of_kinds(user_data(v, 0), v),
         Row::Pool => Says::Pool,
-        Row::Thread => Says::Thread,
+        Row::PoolStock => Says::PoolStock,
+        Row::UnnamedStock => Says::UnnamedStock,
+        Row::Thread => Says::Thread(None),
+        Row::Threads => Says::Thread(Some(small(v, 1))),
         Row::Set => sets(named(v, 0), operand(v, 1)),
         Row::Add => Says::Op(Op::Add(named(v, 0), operand(v, 1), operand(v, 2))),
         Row::Subtract => Says::Op(Op::Subtract(named(v, 0), operand(v, 1), operand(v, 2))),

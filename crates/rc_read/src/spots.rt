@@ -6,12 +6,14 @@ ghost use Rattle.rc_read.specs.Spots as spec;
 ghost use Rattle.rc_read.specs.Table.{parts_of as spec_parts_of, rows as all_rows};
 ghost use Rattle.rc_read.specs.Texts.{Adds, AddsIfSo, AddsSome, HasSpots, HasSpotsOfRow, texts_of, view_spots};
 
+use crate::brackets::{in_brackets, names_copies};
 use crate::fixed::text_of;
 use crate::kinds::{count_or, is_kind_word, part_after};
 use crate::reserved::is_reserved_by;
 use crate::table::{Part, Row, assignments, parts_of, rows_of, version_of};
 use crate::words::{is, is_name};
 use rc_lang::lines::Comparison;
+use rc_lang::names::cut_at_bracket;
 use std::alloc::AllocError;
 
 /// A word in its place, with the part that is there.
@@ -62,13 +64,14 @@ pub fn fits(part: Part, word: &[u8]) -> bool
         Part::Variable | Part::Flag => is_name(word),
         Part::Buffer | Part::ReadBuffer | Part::Pool => is_name(word),
         Part::NewBuffer | Part::NewPool | Part::NewThread => is_name(word),
+        Part::NewThreads => names_copies(word),
         Part::Operand => begins_number(word) || is_name(word),
         Part::Comparison => comparison_of(word).is_some(),
         Part::KindWord => is_kind_word(word),
         Part::Signed | Part::Number(_) | Part::File | Part::Token => true,
         Part::NewFile | Part::NewToken => true,
         Part::Items | Part::HeldShares | Part::HeldToken | Part::Credits | Part::Queued => true,
-        Part::Kinds | Part::WriteShares => true,
+        Part::Kinds | Part::WriteShares | Part::Copies => true,
     }
 }
 
@@ -161,12 +164,28 @@ fn push_items<'a>(spots: &mut Vec<Spot<'a>>, words: &[&'a [u8]]) -> Result<usize
     Ok(words.len())
 }
 
-// Adds the place of a word that is in a part. A fixed word has none.
+// Adds the places of a word that declares threads with one name.
+fn push_threads<'a>(spots: &mut Vec<Spot<'a>>, word: &'a [u8]) -> Result<(), AllocError>
+    ensures { Adds result spots.old spots.new (spec.spots_of_word Part.NewThreads word.now) }
+{
+    spots.push(Spot {
+        part: Part::NewThread,
+        word: cut_at_bracket(word).0,
+    })?;
+    spots.push(Spot {
+        part: Part::Copies,
+        word: in_brackets(word),
+    })?;
+    Ok(())
+}
+
+// Adds the places of a word that is in a part. A fixed word has none.
 fn push_word<'a>(spots: &mut Vec<Spot<'a>>, part: Part, word: &'a [u8]) -> Result<(), AllocError>
     ensures { Adds result spots.old spots.new (spec.spot_of_part part (word.now ∷ [])) }
 {
     match part {
         Part::Fixed(_) => Ok(()),
+        Part::NewThreads => push_threads(spots, word),
         part => {
             spots.push(Spot { part, word })?;
             Ok(())
@@ -294,7 +313,8 @@ fn has_list(row: Row) -> bool
 {
     match row {
         Row::TokenKinds | Row::Thread | Row::Put | Row::IfTake | Row::Loop | Row::LoopWhen => true,
-        Row::PutNamed | Row::IfTakeNamed => true,
+        Row::PutNamed | Row::IfTakeNamed | Row::Threads => true,
+        Row::PoolStock | Row::UnnamedStock => true,
         _ => false,
     }
 }

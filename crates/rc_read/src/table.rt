@@ -45,6 +45,10 @@ pub enum Part {
     NewToken,
     NewPool,
     NewThread,
+    /// Threads that the line declares under one name: `NAME[N]`.
+    NewThreads,
+    /// In it: how many threads.
+    Copies,
     /// Any number of items.
     Items,
     /// The variable after `when`.
@@ -84,7 +88,10 @@ pub enum Row {
     TokenOther,
     TokenKinds,
     Pool,
+    PoolStock,
+    UnnamedStock,
     Thread,
+    Threads,
     Set,
     Add,
     Subtract,
@@ -141,6 +148,10 @@ pub enum Stand {
     /// Wherever a block may be open.
     Brace,
 }
+
+const POOL: Part = Part::Fixed(Word::Pool);
+
+const HOLDS: Part = Part::Fixed(Word::Holds);
 
 /// The parts of a form, from the left.
 pub fn parts_of(row: Row) -> &'static [Part]
@@ -213,10 +224,19 @@ pub fn parts_of(row: Row) -> &'static [Part]
             Part::Fixed(Word::Other),
         ],
         Row::TokenKinds => &[Part::Fixed(Word::Token), Part::NewToken, Part::Kinds],
-        Row::Pool => &[Part::Fixed(Word::Pool), Part::NewPool],
+        Row::Pool => &[POOL, Part::NewPool],
+        Row::PoolStock => &[POOL, Part::NewPool, HOLDS, Part::Items],
+        Row::UnnamedStock => &[POOL, HOLDS, Part::Items],
         Row::Thread => &[
             Part::Fixed(Word::Thread),
             Part::NewThread,
+            Part::Fixed(Word::Holds),
+            Part::Items,
+            Part::Fixed(Word::Open),
+        ],
+        Row::Threads => &[
+            Part::Fixed(Word::Thread),
+            Part::NewThreads,
             Part::Fixed(Word::Holds),
             Part::Items,
             Part::Fixed(Word::Open),

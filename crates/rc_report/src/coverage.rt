@@ -39,7 +39,9 @@ pub(crate) fn put_coverage(
     events: &[Event],
 ) -> Result<(), AllocError> {
     for thread in program.threads() {
-        put_thread_ways(text, alloc, source, &thread.lines, events)?;
+        if !thread.is_further() {
+            put_thread_ways(text, alloc, source, &thread.lines, events)?;
+        }
     }
     let spans = spans_of(alloc, program, events)?;
     put_idle(text, &spans)
@@ -221,11 +223,13 @@ fn has_case(ways: &[Way], user_data: u64) -> bool {
     false
 }
 
-/// The lines of all threads that never ran.
+/// The lines of all threads that never ran; those of copies once.
 fn spans_of(alloc: Global, program: &Program, events: &[Event]) -> Result<Vec<Span>, AllocError> {
     let mut spans = Vec::new(alloc);
     for thread in program.threads() {
-        push_idle(&mut spans, &thread.lines, events)?;
+        if !thread.is_further() {
+            push_idle(&mut spans, &thread.lines, events)?;
+        }
     }
     Ok(spans)
 }

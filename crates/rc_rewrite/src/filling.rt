@@ -41,11 +41,13 @@ enum Goes {
     Whole,
 }
 
-/// The items that the loops of a model are filled with.
+/// The items that the loops of a model are filled with. Copies have the loops of the first.
 pub fn fills_of(alloc: Global, program: &Program, lines: &Lines<'_>) -> Result<Fills, AllocError> {
     let mut fills = Fills::new(alloc);
     for part in program.threads() {
-        fill_part(alloc, &*program, &*lines, &*part, &mut fills)?;
+        if !part.is_further() {
+            fill_part(alloc, &*program, &*lines, &*part, &mut fills)?;
+        }
     }
     Ok(fills)
 }

@@ -20,7 +20,7 @@ pub fn declared(alloc: Global, program: &Program) -> Result<Vec<u32>, AllocError
 
 /// As much as is held on a side.
 fn held(alloc: Global, side: &Side) -> Result<Vec<u32>, AllocError> {
-    let program = side.program();
+    let program = side.view().program;
     let mut row = Vec::new(alloc);
     for buffer in 0..program.buffers().len() {
         row.push(side.shares(buffer))?;

@@ -5,6 +5,7 @@ pub mod Lines
 pub mod Room
 pub mod Moves
 pub mod Headers
+pub mod Copies
 pub mod Meets
 pub mod Alike
 pub mod Joins

@@ -9,7 +9,8 @@ use Rattle.rc_lang.specs.declared.program.Token.{Token}
 use Rattle.rc_lang.specs.declared.program.TokenKind.{TokenKind}
 use Rattle.rc_lang.specs.declared.program.TokenKind.TheVariants.{Read, Write, Fsync, Nop, Other}
 use Rattle.rc_lang.specs.Kinds.{kinds_in}
-use Rattle.rc_lang.specs.Program.{Program, IsProgram, IsTokenKind, token_place}
+use Rattle.rc_lang.specs.Program.{Program, IsTokenKind, token_place}
+use Rattle.rc_lang.specs.Views.{IsView}
 use Rattle.rc_split.specs.Bags.{Part, ShareOf, TokenOf, Credit, shares_bag, token_bag, credits_bag}
 use Rattle.rc_split.proofs.Named.{few_shares}
 use Rattle.rc_rules.specs.declared.mode.Mode.{Mode}
@@ -24,11 +25,11 @@ use Rattle.rc_rules.proofs.Weaker.{cq_given, sq_given}
 no_line : (P : Program) → IsLine P None
 no_line P i kind lt = absurd (omega (arith, lt))
 
-is_line : (P : Program) (o : Option Token) (k : ℕ) → IsProgram P → slice_get P.tokens k ≡ o → IsLine P o
+is_line : (P : Program) (o : Option Token) (k : ℕ) → IsView P → slice_get P.tokens k ≡ o → IsLine P o
 is_line P None k h e = no_line P
 is_line P (Some t) k h e = subst (λ (y : Token). IsLine P (Some y)) (get_or_from_slice_get P.tokens k t t e) (h.tokens k t (slice_get_within P.tokens k t e))
 
-pub line_of : (P : Program) (u : ℕ) → IsProgram P → IsLine P (token_of P u)
+pub line_of : (P : Program) (u : ℕ) → IsView P → IsLine P (token_of P u)
 line_of P u h = go (token_place P.tokens u)
   where
     go : (o : Option ℕ) → IsLine P (token_at P.tokens o)
@@ -42,7 +43,7 @@ few b c k h = go (nat_eq b c)
     go true = h
     go false = omega arith
 
-pub kind_few : (P : Program) (kind : TokenKind) (p : Part) → IsProgram P → IsTokenKind P kind → kind_bag P kind p ≤ 16
+pub kind_few : (P : Program) (kind : TokenKind) (p : Part) → IsView P → IsTokenKind P kind → kind_bag P kind p ≤ 16
 kind_few P (Read b) (ShareOf c) h l = few b c _ (few_shares P b h)
 kind_few P (Write b k) (ShareOf c) h l = few b c k (let m = few_shares P b h in let n = l.1.within in omega (arith, m, n))
 kind_few P Fsync p h l = omega arith
@@ -59,10 +60,10 @@ least_below : (P : Program) (n : ℕ) (kinds : List TokenKind) (p : Part) → le
 least_below P n [] p = omega arith
 least_below P n (kind ∷ kinds) p = omega (arith, least_below P (min n (kind_bag P kind p)) kinds p)
 
-first_few : (P : Program) (kind : TokenKind) (kinds : List TokenKind) (p : Part) → IsProgram P → IsTokenKind P kind → line_bag P (kind ∷ kinds) p ≤ 16
+first_few : (P : Program) (kind : TokenKind) (kinds : List TokenKind) (p : Part) → IsView P → IsTokenKind P kind → line_bag P (kind ∷ kinds) p ≤ 16
 first_few P kind kinds p h l = omega (arith, least_below P (kind_bag P kind p) kinds p, kind_few P kind p h l)
 
-pub line_few : (P : Program) (kinds : List TokenKind) (p : Part) → IsProgram P → All (IsTokenKind P) kinds → line_bag P kinds p ≤ 16
+pub line_few : (P : Program) (kinds : List TokenKind) (p : Part) → IsView P → All (IsTokenKind P) kinds → line_bag P kinds p ≤ 16
 line_few P [] p h l = omega arith
 line_few P (kind ∷ kinds) p h l = first_few P kind kinds p h (l 0 kind (omega arith))
 
@@ -114,18 +115,18 @@ one_credit (ShareOf b) = omega arith
 one_credit (TokenOf v) = omega arith
 one_credit Credit = omega arith
 
-pub line_is : (P Q : Program) (u : ℕ) (o : Option Token) → o ≡ token_of Q u → Q ≡ P → IsProgram P → IsLine P o
+pub line_is : (P Q : Program) (u : ℕ) (o : Option Token) → o ≡ token_of Q u → Q ≡ P → IsView P → IsLine P o
 line_is P Q u o e q h = subst (IsLine P) (sym (e ∙ ap (λ (R : Program). token_of R u) q)) (line_of P u h)
 
 -- ---- effects
 
-pub got_few : (P : Program) (pk : Peeked) (p : Part) → IsProgram P → got_bag P pk p ≤ 17
+pub got_few : (P : Program) (pk : Peeked) (p : Part) → IsView P → got_bag P pk p ≤ 17
 got_few P Unseen p h = omega arith
 got_few P (Sees u) p h = omega (arith, line_few P (kinds_of P u) p h (line_of P u h), one_at_most u p)
 got_few P SeesOther p h = omega arith
 got_few P Got p h = omega arith
 
-pub reaped_few : (P : Program) (pk : Peeked) (p : Part) → IsProgram P → reaped P pk p ≤ 18
+pub reaped_few : (P : Program) (pk : Peeked) (p : Part) → IsView P → reaped P pk p ≤ 18
 reaped_few P Unseen p h = omega arith
 reaped_few P (Sees u) p h = omega (arith, got_few P (Sees u) p h, one_credit p)
 reaped_few P SeesOther p h = omega (arith, one_credit p)
@@ -137,7 +138,7 @@ by_lock (Some s) F Q d f = f s refl
 
 -- What is true of a dead state, and of each with the same locks as before and at most 18 of a part more, is true after a
 -- statement.
-pub effect_by : (P : Program) (a : Part → ℕ) (m : Mode) (op : Op) → IsProgram P → (Q : Label → Type 0) → Q Dead → ((b : Part → ℕ) (n : Mode) → locks_of n ≡ locks_of m → ((p : Part) → b p ≤ a p + 18) → Q (Live b n)) → Q (op_effect P a m op)
+pub effect_by : (P : Program) (a : Part → ℕ) (m : Mode) (op : Op) → IsView P → (Q : Label → Type 0) → Q Dead → ((b : Part → ℕ) (n : Mode) → locks_of n ≡ locks_of m → ((p : Part) → b p ≤ a p + 18) → Q (Live b n)) → Q (op_effect P a m op)
 effect_by P a m ops.GetSqe h Q d f = by_lock m.sq _ Q d (λ s e. f _ _ (sq_given m s e) (λ p. omega arith))
 effect_by P a m (ops.PrepRead fd b len off) h Q d f = by_lock m.sq _ Q d (λ s e. f _ _ (sq_given m s e) (λ p. omega arith))
 effect_by P a m (ops.PrepWrite fd b len off k) h Q d f = by_lock m.sq _ Q d (λ s e. f _ _ (sq_given m s e) (λ p. omega arith))

@@ -3,7 +3,8 @@ use Rattle.std.proofs.Common.{◌≡◌, ℕ, zero, suc, ◌+◌, ◌<◌, ◌�
 use Rattle.std.specs.List.{list_all, list_any}
 use Rattle.std.proofs.lemmas.Bool.{and_from, and_parts, or_parts, eqb-false, leb-true, le-leb}
 use Rattle.rc_lang.specs.declared.program.Share.{Share}
-use Rattle.rc_lang.specs.Program.{Program, Items, IsItems, IsProgram, shares_at}
+use Rattle.rc_lang.specs.Program.{Program, Items, IsItems, shares_at}
+use Rattle.rc_lang.specs.Views.{IsView}
 use Rattle.rc_split.specs.Bags.{Part, ShareOf, TokenOf, Credit, bag_of, plus, IsWithin}
 use Rattle.rc_split.specs.Holdings.{Holding, bag, AreDeclared}
 use Rattle.rc_split.proofs.Named.{all_at, few_shares, no_share, share_at, share_named, token_named}
@@ -45,7 +46,7 @@ token_there (x ∷ xs) (suc i) lt =
 
 -- ---- room
 
-pub limit_few : (P : Program) (p : Part) → IsProgram P → limit P p ≤ 2048
+pub limit_few : (P : Program) (p : Part) → IsView P → limit P p ≤ 2048
 limit_few P (ShareOf b) h = omega (arith, few_shares P b h)
 limit_few P (TokenOf u) h = omega arith
 limit_few P Credit h = h.completion_entries.within
@@ -92,7 +93,7 @@ module _ (P : Program) (held : Part → ℕ) (items : Items) (of : IsItems P ite
   names = record { buffers = of.buffers; tokens = of.tokens }
 
   -- So counts are as small with them as without, or as there are.
-  pub with_few : IsProgram P → (m : Mode) → can_take P held m items ≡ true → (n : ℕ) → 2048 ≤ n → (p : Part) → held p ≤ n → held p + bag_of items p ≤ n
+  pub with_few : IsView P → (m : Mode) → can_take P held m items ≡ true → (n : ℕ) → 2048 ≤ n → (p : Part) → held p ≤ n → held p + bag_of items p ≤ n
   with_few made m e n l p s = elim (room (and_parts (has_room P held items) (not (names_peeked items.tokens (peeked_of m))) e).0 p) [
     | inl x ↦ omega (arith, x, s)
     | inr x ↦ omega (arith, x, l, limit_few P p made)

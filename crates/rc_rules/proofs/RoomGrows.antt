@@ -2,7 +2,7 @@
 use Rattle.std.proofs.Common.{◌≡◌, ℕ, suc, ◌-◌, ◌<◌, ◌≤◌, inl, inr, Bool, true, nat_lt, nat_le, ◌||◌, arith}
 use Rattle.std.proofs.lemmas.Bool.{and_from, and_parts, leb-true, le-leb, ltb-true, or_cases, or_left, or_right}
 use Rattle.rc_lang.specs.Program.{Program}
-use Rattle.rc_split.specs.Bags.{Part, Credit, credits_given, lacking, IsWithin}
+use Rattle.rc_split.specs.Bags.{Part, Credit, begun, credits_given, lacking, IsWithin}
 use Rattle.rc_split.proofs.Lacking.{lacking_less}
 use Rattle.rc_rules.specs.declared.mode.Submitting.{Submitting}
 use Rattle.rc_rules.specs.Labels.{WeakerSubmitting}
@@ -27,7 +27,7 @@ tokens_grow P b c w e =
 
 credits_grow : (P : Program) (b c : Part → ℕ) → IsWithin b c → few_credits P b ≡ true → few_credits P c ≡ true
 credits_grow P b c w e =
-    let given = credits_given P.threads in
+    let given = credits_given (begun P.stock P.threads) in
     let h = and_parts (nat_le 5 P.version) (nat_lt (given - b Credit) P.entries) e in
     and_from _ _ h.0 (fewer (given - c Credit) (given - b Credit) P.entries (omega (arith, w Credit)) h.1)
 

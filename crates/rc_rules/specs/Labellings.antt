@@ -1,18 +1,19 @@
 -- Labellings: a label for each side of each place of a thread. Whether they obey the rules, which programs are
 -- accepted, and where the others are refused.
-use Rattle.std.specs.Prelude.{ℕ, Bool, true, ◌≡◌, ◌⊎◌, ◌+◌, ◌<◌, cond, List, [], ◌∷◌, ◌++◌, Some, nat_eq, take, drop, length, slice_get, slice_index_or}
+use Rattle.std.specs.Prelude.{ℕ, Bool, true, false, ◌||◌, ◌≡◌, ◌⊎◌, ◌+◌, ◌<◌, cond, List, [], ◌∷◌, ◌++◌, Option, Some, None, is_none, nat_eq, take, drop, length, slice_get, slice_index_or}
 use Rattle.rc_lang.specs.declared.lines.Line.{Line}
 use Rattle.rc_lang.specs.declared.lines.Stmt.{Stmt}
 use Rattle.rc_lang.specs.declared.lines.Stmt.TheVariants.{Do, Put, Lock, EndLock, If, Else, EndIf, Peek, Case, Other, Nothing, EndArm, EndPeek, Loop, EndLoop, Break}
-use Rattle.rc_lang.specs.Program.{Program, Thread, items_at, stmt_at}
+use Rattle.rc_lang.specs.Program.{Items, Program, Stock, Thread, items_at, line_end, stmt_at}
+use Rattle.rc_lang.specs.Views.{view_of}
 use Rattle.rc_rules.specs.declared.cause.Cause.TheVariants.{OverShares, TokenTwice, OverCredits}
 use Rattle.rc_rules.specs.declared.mode.Peeked.TheVariants.{Unseen, SeesOther}
 use Rattle.rc_rules.specs.declared.flag.Write.TheVariants.{Anything}
-use Rattle.rc_split.specs.Bags.{Part, ShareOf, TokenOf, Credit, bag_of}
+use Rattle.rc_split.specs.Bags.{Part, ShareOf, TokenOf, Credit, bag_of, begun}
 use Rattle.rc_rules.specs.Causes.{premise_number}
 use Rattle.rc_rules.specs.Labels.{Label, Dead, Live, WeakerThanEach, IsSame}
 use Rattle.rc_rules.specs.Sides.{Sides, on, unreached, gate, brings, turns, write_to, write_of, forgets, test_goes, may_skip}
-use Rattle.rc_rules.specs.Premises.{Premise, Covers, Meets, MeetsBelow}
+use Rattle.rc_rules.specs.Premises.{Premise, Is, Covers, Meets, MeetsBelow}
 use Rattle.rc_rules.specs.Rules.{limit, op_effect, put_effect, asked, goes, entered, released, test_effect, peek_at, case_at, joins_both, top, broken, unlocked}
 
 -- ---- the labels that a line sees
@@ -48,8 +49,8 @@ break_ends [] labels o z = []
 break_ends (l ∷ lines) labels o z = break_end l.stmt o (label_at labels 0 z) ++ break_ends lines (drop 1 labels) o z
 
 -- The labels that lead to a side of the place after this line of a thread, from the lines before it and the labels so
--- far. After a peek, before its arms, is what was known before it; where it writes the flag, of both sides. After
--- an arm, and after a break, nothing comes from above.
+-- far; here and below the program is as the thread names it. After a peek, before its arms, is what was known before it;
+-- where it writes the flag, of both sides. After an arm, and after a break, nothing comes from above.
 abbrev pub befores : Program → Thread → List Line → List Sides → Stmt → Bool → List Label
 befores P thread lines known (Do op) z = brings (λ y. turns (write_of thread.flag op) y z) (λ s. goes s (λ bag m. op_effect P bag m op)) (here lines known)
 befores P thread lines known (Put pool k) z = goes (here lines known z) (λ bag m. put_effect bag m (items_at thread.lists k)) ∷ []
@@ -102,10 +103,10 @@ HasLabels P thread lines = (labels : List Sides) × IsGood P thread lines labels
 
 -- ---- headers
 
--- what these threads hold as they begin
-abbrev pub headers_bag : List Thread → Part → ℕ
+-- what these lists name together
+abbrev pub headers_bag : List Items → Part → ℕ
 headers_bag [] p = 0
-headers_bag (t ∷ ts) p = bag_of t.items p + headers_bag ts p
+headers_bag (i ∷ is) p = bag_of i p + headers_bag is p
 
 -- the parts of one sort alone
 abbrev pub shares_of : (Part → ℕ) → Part → ℕ
@@ -123,19 +124,46 @@ credits_of bag (ShareOf b) = 0
 credits_of bag (TokenOf u) = 0
 credits_of bag Credit = bag Credit
 
--- The threads up to a header hold together at most what there is.
-abbrev pub header_premises : Program → List Thread → List (ℕ × Premise)
-header_premises P threads = (premise_number OverShares, Covers (limit P) (shares_of (headers_bag threads))) ∷ (premise_number TokenTwice, Covers (limit P) (tokens_of (headers_bag threads))) ∷ (premise_number OverCredits, Covers (limit P) (credits_of (headers_bag threads))) ∷ []
+-- A thread with a number holds no token, since each copy of it would.
+abbrev pub is_empty : List ℕ → Bool
+is_empty [] = true
+is_empty (u ∷ us) = false
+
+abbrev pub may_hold : Option Thread → Bool
+may_hold None = true
+may_hold (Some thread) = is_none thread.copy || is_empty thread.items.tokens
+
+-- This is together at most what there is, and the line whose turn it is has no number or no token.
+abbrev pub header_premises : Program → (Part → ℕ) → Bool → List (ℕ × Premise)
+header_premises P bag alone = (premise_number OverShares, Covers (limit P) (shares_of bag)) ∷ (premise_number TokenTwice, Covers (limit P) (tokens_of bag)) ∷ (premise_number TokenTwice, Is alone) ∷ (premise_number OverCredits, Covers (limit P) (credits_of bag)) ∷ []
+
+-- what the first lines of pools give, and what those of all pools and the first threads do
+abbrev pub given_to_pools : Program → ℕ → Part → ℕ
+given_to_pools P n = headers_bag (begun (take n P.stock) [])
+
+abbrev pub given_to : Program → ℕ → Part → ℕ
+given_to P n = headers_bag (begun P.stock (take n P.threads))
+
+-- The lines of pools are asked this, and so is the header of a thread, with all threads up to its line, those of the line
+-- included.
+abbrev pub pool_asks : Program → ℕ → List (ℕ × Premise)
+pool_asks P n = header_premises P (given_to_pools P n) true
+
+abbrev pub header_asks : Program → ℕ → List (ℕ × Premise)
+header_asks P i = header_premises P (given_to P (line_end P.threads i)) (may_hold (slice_get P.threads i))
 
 -- ---- accepted programs
 
--- The thread's header meets its premises, and its lines have a labelling.
+-- The thread's header meets its premises, and its lines have a labelling by the rules, which are over the program as the
+-- thread names it.
 pub record Passes (P : Program) (i : ℕ) (thread : Thread) : Type 0 where
-  pub header : Meets (header_premises P (take (i + 1) P.threads))
-  pub labels : HasLabels P thread thread.lines
+  pub header : Meets (header_asks P i)
+  pub labels : HasLabels (view_of P i) thread thread.lines
 
-abbrev pub Accepts : Program → Type 0
-Accepts P = (i : ℕ) (thread : Thread) → slice_get P.threads i ≡ Some thread → Passes P i thread
+-- The lines of pools meet their premises, and each thread passes.
+pub record Accepts (P : Program) : Type 0 where
+  pub pools : Meets (pool_asks P (length P.stock))
+  pub threads : (i : ℕ) (thread : Thread) → slice_get P.threads i ≡ Some thread → Passes P i thread
 
 -- ---- refused programs
 
@@ -150,21 +178,36 @@ pub record IsRefusedAt (P : Program) (thread : Thread) (j : ℕ) (line : Line) (
 
 -- A header line is refused by its own premises alone.
 pub record IsHeaderRefused (P : Program) (i v : ℕ) : Type 0 where
-  pub below : MeetsBelow v (header_premises P (take (i + 1) P.threads))
-  pub fails : MeetsBelow (v + 1) (header_premises P (take (i + 1) P.threads)) → ⊥
+  pub below : MeetsBelow v (header_asks P i)
+  pub fails : MeetsBelow (v + 1) (header_asks P i) → ⊥
 
 pub record IsBodyRefused (P : Program) (i : ℕ) (thread : Thread) (number v : ℕ) : Type 0 where
-  pub header : Meets (header_premises P (take (i + 1) P.threads))
+  pub header : Meets (header_asks P i)
   pub place : ℕ
   pub line : Line
   pub number_is : line.number ≡ number
-  pub refused : IsRefusedAt P thread place line v
+  pub refused : IsRefusedAt (view_of P i) thread place line v
 
--- The threads are judged in text order, each header before its body: the program is refused at the line with this
--- number, for the premise v.
-pub record IsRefused (P : Program) (number v : ℕ) : Type 0 where
+-- The line of a pool is refused, and none above it.
+pub record IsPoolRefused (P : Program) (number v : ℕ) : Type 0 where
+  pub index : ℕ
+  pub stock : Stock
+  pub stock_is : slice_get P.stock index ≡ Some stock
+  pub number_is : stock.line ≡ number
+  pub earlier : Meets (pool_asks P index)
+  pub below : MeetsBelow v (pool_asks P (index + 1))
+  pub fails : MeetsBelow (v + 1) (pool_asks P (index + 1)) → ⊥
+
+-- The threads are judged in text order, each header before its body. What holds of the first copy of a line holds of the
+-- others.
+pub record IsThreadRefused (P : Program) (number v : ℕ) : Type 0 where
+  pub pools : Meets (pool_asks P (length P.stock))
   pub index : ℕ
   pub thread : Thread
   pub thread_is : slice_get P.threads index ≡ Some thread
   pub earlier : (k : ℕ) (t : Thread) → k < index → slice_get P.threads k ≡ Some t → Passes P k t
   pub at : ((thread.line ≡ number) × IsHeaderRefused P index v) ⊎ IsBodyRefused P index thread number v
+
+-- The program is refused at the line with this number, for the premise v. The lines of pools are before the threads.
+abbrev pub IsRefused : Program → ℕ → ℕ → Type 0
+IsRefused P number v = IsPoolRefused P number v ⊎ IsThreadRefused P number v

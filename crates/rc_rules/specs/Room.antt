@@ -1,11 +1,11 @@
 -- When the submission ring has room for one more entry.
 use Rattle.std.specs.Prelude.{ℕ, ◌-◌, Bool, nat_lt, nat_le, ◌&&◌, ◌||◌}
 use Rattle.rc_lang.specs.Program.{Program}
-use Rattle.rc_split.specs.Bags.{Part, Credit, credits_given, lacking}
+use Rattle.rc_split.specs.Bags.{Part, Credit, begun, credits_given, lacking}
 
 -- how many of the credits that threads begin with aren't held
 abbrev pub credits_out : Program → (Part → ℕ) → ℕ
-credits_out P bag = credits_given P.threads - bag Credit
+credits_out P bag = credits_given (begun P.stock P.threads) - bag Credit
 
 -- The tokens that aren't held are fewer than the ring's entries; and so are the credits. Each queued entry owns one token
 -- and one credit.

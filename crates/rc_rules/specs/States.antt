@@ -9,6 +9,7 @@ use Rattle.rc_lang.specs.declared.program.Token.{Token}
 use Rattle.rc_lang.specs.declared.program.Share.{Share}
 use Rattle.rc_lang.specs.Locks.{no_lock, without_locks}
 use Rattle.rc_lang.specs.Program.{Program, Thread, Items, DeclaresToken, IsTokenKind, shares_at}
+use Rattle.rc_lang.specs.Views.{view_of}
 use Rattle.rc_rules.specs.declared.cause.Cause.{Cause}
 use Rattle.rc_rules.specs.declared.mode.Mode.{Mode}
 use Rattle.rc_rules.specs.declared.mode.Peeked.{Peeked}
@@ -28,7 +29,8 @@ use Rattle.rc_rules.specs.declared.flag.Write.{Write}
 use Rattle.rc_rules.specs.Sides.{Sides, brings, forgets, gate, on, turns, write_of}
 use Rattle.rc_rules.specs.Premises.{Premise, Meets, FailsFirst}
 
--- One side of a state: the program, and what is held and which locks are, unless nothing reaches the point.
+-- One side of a state: the program as its thread names it, and what is held and which locks are, unless nothing reaches
+-- the point.
 pub record Side : Type 0 where
   pub program : Program
   pub live : Option (Holding × Mode)
@@ -49,7 +51,7 @@ abbrev pub held_at : Label → Part → ℕ
 held_at Dead p = 0
 held_at (Live bag m) p = bag p
 
--- how many declared tokens aren't held, none where nothing reaches
+-- how many of the view's tokens aren't held, none where nothing reaches
 abbrev pub lacked_at : Program → Label → ℕ
 lacked_at P Dead = 0
 lacked_at P (Live bag m) = lacking P.tokens bag
@@ -160,7 +162,7 @@ IsSmall (Live bag m) = (p : Part) → bag p ≤ 2 ^ 19
 
 -- ---- what a call answers
 
--- The state is one of the same program and thread.
+-- The state is one of the same view and thread.
 pub record IsOfSame (new old : State) : Type 0 where
   pub program : program_of new ≡ program_of old
   pub flag : new.flag ≡ old.flag
@@ -283,11 +285,11 @@ pub record BeginsAs (s : State) (thread : Thread) : Type 0 where
   pub each : (z : Bool) → IsSame (label_of s z) (on z (start_of thread))
 
 abbrev pub IsStart : Program → ℕ → State → Type 0
-IsStart P i s = (program_of s ≡ P) × ((thread : Thread) → slice_get P.threads i ≡ Some thread → BeginsAs s thread)
+IsStart P i s = (program_of s ≡ view_of P i) × ((thread : Thread) → slice_get P.threads i ≡ Some thread → BeginsAs s thread)
 
 -- ---- what is kept
 
--- The sides are of one program. Where both are live, they have the same locks, their slots are at one stage, and the front
+-- The sides are of one view. Where both are live, they have the same locks, their slots are at one stage, and the front
 -- completion is got on both or on neither.
 pub record IsState (s : State) : Type 0 where
   pub program : s.other.program ≡ s.zero.program

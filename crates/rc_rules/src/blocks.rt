@@ -2,6 +2,7 @@
 
 ghost use Rattle.std.specs.Prelude.{◌≡◌, ◌∷◌, [], option_map};
 ghost use Rattle.rc_lang.specs.Parts.{view_items};
+ghost use Rattle.rc_lang.specs.Views.{seen};
 ghost use Rattle.rc_rules.specs.Premises.{Tests, Is};
 ghost use Rattle.rc_rules.specs.Rules as rules;
 ghost use Rattle.rc_rules.specs.States as states;
@@ -9,15 +10,16 @@ ghost use Rattle.rc_rules.specs.States as states;
 use crate::cause::Cause;
 use crate::mode::{Mode, Peeked, Slot, Submitting, is_got, same_slot, sq_of};
 use rc_lang::lines::{Locks, Test};
-use rc_lang::program::{Items, Program};
+use rc_lang::program::Items;
+use rc_lang::view::View;
 
 /// What is known of the ring in the first branch of a test; what a take brings is told by its own rule.
-pub fn behind_test(program: &Program, test: Test, mode: Mode) -> Mode
-    ensures { result ≡ rules.test_mode program.now test mode }
+pub fn behind_test(view: View, test: Test, mode: Mode) -> Mode
+    ensures { result ≡ rules.test_mode (seen view.entry) test mode }
 {
     match test {
         Test::ReadyZero => at_most(0, mode),
-        Test::SpaceAtLeast(n) => at_most(program.entries().saturating_sub(n), mode),
+        Test::SpaceAtLeast(n) => at_most(view.entries().saturating_sub(n), mode),
         _ => mode,
     }
 }
@@ -58,13 +60,13 @@ fn seen_as(peeked: Peeked, cq: Option<Peeked>) -> Option<Peeked>
 }
 
 /// What is known where some locks are taken: as many entries may be queued as may be left, and nothing is peeked.
-pub fn locked(program: &Program, takes: Locks, mode: Mode) -> Mode
-    ensures { result ≡ rules.locked program.now takes mode }
+pub fn locked(view: View, takes: Locks, mode: Mode) -> Mode
+    ensures { result ≡ rules.locked (seen view.entry) takes mode }
 {
     Mode {
         sq: if takes.sq {
             Some(Submitting {
-                queued: program.left(),
+                queued: view.left(),
                 slot: Slot::Closed,
             })
         } else {
@@ -89,10 +91,10 @@ pub fn freed(releases: Locks, mode: Mode) -> Mode
 }
 
 /// How many entries may be queued at the top of a loop.
-pub fn queue_on(program: &Program, items: &Items) -> u32
-    ensures { result ≡ rules.queue_on program.now (view_items items.now) }
+pub fn queue_on(view: View, items: &Items) -> u32
+    ensures { result ≡ rules.queue_on (seen view.entry) (view_items items.now) }
 {
-    items.queue.unwrap_or(program.entries())
+    items.queue.unwrap_or(view.entries())
 }
 
 /// Whether no slot is open, and no more entries are queued than this.
@@ -104,13 +106,13 @@ pub fn keeps_queue(most: u32, mode: Mode) -> bool
 }
 
 /// What is known at the top of a loop.
-pub fn top_mode(program: &Program, items: &Items, mode: Mode) -> Mode
-    ensures { result ≡ rules.top_mode program.now (view_items items.now) mode }
+pub fn top_mode(view: View, items: &Items, mode: Mode) -> Mode
+    ensures { result ≡ rules.top_mode (seen view.entry) (view_items items.now) mode }
 {
     Mode {
         sq: match mode.sq {
             Some(_) => Some(Submitting {
-                queued: queue_on(program, items),
+                queued: queue_on(view, items),
                 slot: Slot::Closed,
             }),
             None => None,

@@ -2,19 +2,21 @@
 
 ghost use Rattle.std.specs.Prelude.{◌≡◌, filter_map};
 ghost use Rattle.rc_lang.specs.Kinds.{kinds_in};
+ghost use Rattle.rc_lang.specs.Views.{seen};
 ghost use Rattle.rc_rules.specs.Kinds as spec;
 ghost use Rattle.rc_rules.specs.Rules.{is_prepared_as};
 ghost use Rattle.rc_split.specs.Bags.{ShareOf};
 
 use crate::mode::{Slot, same_slot};
-use rc_lang::program::{Program, Token, TokenKind};
+use rc_lang::program::{Token, TokenKind};
+use rc_lang::view::View;
 
-/// The declared token with this user_data.
-pub fn token_of(program: &Program, user_data: u64) -> Option<Token>
-    ensures { result ≡ spec.token_of program.now user_data }
+/// The token with this user data, if there is one.
+pub fn token_of(view: View, user_data: u64) -> Option<Token>
+    ensures { result ≡ spec.token_of (seen view.entry) user_data }
 {
-    let place = program.token_place(user_data)?;
-    program.tokens().get(place).copied()
+    let place = view.token_place(user_data)?;
+    view.tokens().get(place).copied()
 }
 
 /// Whether the slot is prepared as one of the kinds of the token, where there is one.
@@ -43,35 +45,35 @@ fn is_one_of(slot: Slot, kinds: &[Option<TokenKind>]) -> bool
 }
 
 /// How many shares of the buffer a request of the token takes, whichever of its kinds it is.
-pub fn shares_of(program: &Program, token: Token, buffer: usize) -> u32
-    ensures { result ≡ spec.line_bag program.now (kinds_in token) (ShareOf buffer) }
+pub fn shares_of(view: View, token: Token, buffer: usize) -> u32
+    ensures { result ≡ spec.line_bag (seen view.entry) (kinds_in token) (ShareOf buffer) }
 {
-    let first = taken(program, buffer, token.kind);
-    least(program, buffer, first, &token.others)
+    let first = taken(view, buffer, token.kind);
+    least(view, buffer, first, &token.others)
 }
 
 /// The least of so many shares of the buffer, and of those that a request of each of these kinds takes.
-fn least(program: &Program, buffer: usize, most: u32, kinds: &[Option<TokenKind>]) -> u32
-    ensures { result ≡ spec.least_of program.now most (filter_map (λ kind. kind) kinds.now) (ShareOf buffer) }
+fn least(view: View, buffer: usize, most: u32, kinds: &[Option<TokenKind>]) -> u32
+    ensures { result ≡ spec.least_of (seen view.entry) most (filter_map (λ kind. kind) kinds.now) (ShareOf buffer) }
 {
     let [first, rest @ ..] = kinds else {
         return most;
     };
     match *first {
         Some(kind) => {
-            let fewer = most.min(taken(program, buffer, kind));
-            least(program, buffer, fewer, rest)
+            let fewer = most.min(taken(view, buffer, kind));
+            least(view, buffer, fewer, rest)
         }
-        None => least(program, buffer, most, rest),
+        None => least(view, buffer, most, rest),
     }
 }
 
 /// How many shares of the buffer a request of the kind takes.
-fn taken(program: &Program, buffer: usize, kind: TokenKind) -> u32
-    ensures { result ≡ spec.kind_bag program.now kind (ShareOf buffer) }
+fn taken(view: View, buffer: usize, kind: TokenKind) -> u32
+    ensures { result ≡ spec.kind_bag (seen view.entry) kind (ShareOf buffer) }
 {
     match kind {
-        TokenKind::Read(read) if read == buffer => program.shares_at(read),
+        TokenKind::Read(read) if read == buffer => view.shares_at(read),
         TokenKind::Write(written, count) if written == buffer => count,
         _ => 0,
     }

@@ -263,7 +263,7 @@ fn all_met(
 pub fn is_met(holding: &Holding, lists: &[Items], zero: bool, mode: Mode, asks: Asks) -> bool
     ensures { IsTrue result ↔ spec.IsMetBy holding.now (map view_items lists.now) zero mode asks }
 {
-    let program = holding.program();
+    let view = holding.view();
     let sq = sq_of(mode);
     match asks {
         Asks::SqLock => mode.sq.is_some(),
@@ -276,19 +276,19 @@ pub fn is_met(holding: &Holding, lists: &[Items], zero: bool, mode: Mode, asks: 
         },
         Asks::Loop(list) => match lists.get(list) {
             Some(items) => {
-                keeps_queue(queue_on(program, items), mode) && holding.covers_on(items, zero)
+                keeps_queue(queue_on(view, items), mode) && holding.covers_on(items, zero)
             }
-            None => keeps_queue(program.entries(), mode),
+            None => keeps_queue(view.entries(), mode),
         },
         Asks::Room => can_queue(holding, sq.queued),
         Asks::Closed => same_slot(sq.slot, Slot::Closed),
         Asks::Vacant => same_slot(sq.slot, Slot::Vacant),
         Asks::Prepared => has_kind(sq.slot),
-        Asks::Line(user_data) => is_prepared_as(token_of(program, user_data), sq.slot),
-        Asks::Place(buffer, place) => place < program.bytes_at(buffer),
-        Asks::Length(buffer, len) => len <= program.bytes_at(buffer),
+        Asks::Line(user_data) => is_prepared_as(token_of(view, user_data), sq.slot),
+        Asks::Place(buffer, place) => place < view.bytes_at(buffer),
+        Asks::Length(buffer, len) => len <= view.bytes_at(buffer),
         Asks::Peeked => is_seen(peeked_of(mode)),
-        Asks::Left => sq.queued <= program.left(),
+        Asks::Left => sq.queued <= view.left(),
         Asks::Agreeing => true,
         Asks::Seen => !is_got(peeked_of(mode)),
     }
@@ -298,15 +298,15 @@ pub fn is_met(holding: &Holding, lists: &[Items], zero: bool, mode: Mode, asks: 
 fn can_queue(holding: &Holding, queued: u32) -> bool
     ensures { result ≡ room.can_queue holding.now.program (bag holding.now) queued }
 {
-    queued < holding.program().entries() || few_tokens(holding) || few_credits(holding)
+    queued < holding.view().entries() || few_tokens(holding) || few_credits(holding)
 }
 
 /// Whether the tokens that aren't held are fewer than the ring's entries, from version 4 on. Each queued entry owns one.
 fn few_tokens(holding: &Holding) -> bool
     ensures { result ≡ room.few_tokens holding.now.program (bag holding.now) }
 {
-    let program = holding.program();
-    program.version() >= 4 && holding.lacking() < program.entries()
+    let view = holding.view();
+    view.version() >= 4 && holding.lacking() < view.entries()
 }
 
 /// Whether the credits that threads begin with and that aren't held are fewer than the ring's entries, from version 5 on.
@@ -314,8 +314,8 @@ fn few_tokens(holding: &Holding) -> bool
 fn few_credits(holding: &Holding) -> bool
     ensures { result ≡ room.few_credits holding.now.program (bag holding.now) }
 {
-    let program = holding.program();
-    program.version() >= 5 && credits_out(holding) < program.entries()
+    let view = holding.view();
+    view.version() >= 5 && credits_out(holding) < view.entries()
 }
 
 /// How many of the credits that threads begin with aren't held.
@@ -329,6 +329,6 @@ pub(crate) fn credits_out(holding: &Holding) -> u32
 fn is_whole(holding: &Holding, buffer: usize) -> bool
     ensures { result ≡ rules.is_whole holding.now.program (bag holding.now) buffer }
 {
-    let shares = holding.program().shares_at(buffer);
+    let shares = holding.view().shares_at(buffer);
     holding.holds(Part::Shares(buffer, shares))
 }

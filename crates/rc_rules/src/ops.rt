@@ -2,7 +2,7 @@
 
 ghost use Rattle.std.specs.Prelude.{◌≡◌, ◌≤◌, ◌<◌, ◌^◌, Some, true, length};
 ghost use Rattle.rc_lang.specs.Kinds.{kinds_in};
-ghost use Rattle.rc_lang.specs.Program.{IsProgram};
+ghost use Rattle.rc_lang.specs.Views.{IsView};
 ghost use Rattle.rc_rules.specs.Kinds as kinds;
 ghost use Rattle.rc_rules.specs.OneRule.{only_computes};
 ghost use Rattle.rc_rules.specs.Rules as rules;
@@ -63,7 +63,7 @@ fn opened(holding: &mut Holding, mode: Mode) -> Mode
     ensures ring { result ≡ rules.opened holding.old.program (rules.sq_of mode) mode }
     ensures lost { Loses holding.old holding.new (bags.credits_bag 1) }
 {
-    let entries = holding.program().entries();
+    let entries = holding.view().entries();
     let _ = holding.take(Part::Credits(1));
     Mode {
         sq: Some(Submitting {
@@ -95,7 +95,7 @@ fn prepared(holding: &mut Holding, mode: Mode, kind: TokenKind) -> Mode
 {
     match kind {
         TokenKind::Read(buffer) => {
-            let shares = holding.program().shares_at(buffer);
+            let shares = holding.view().shares_at(buffer);
             let _ = holding.take(Part::Shares(buffer, shares));
         }
         TokenKind::Write(buffer, count) => {
@@ -177,15 +177,15 @@ fn give_request(holding: &mut Holding, user_data: u64)
     requires small { (p : bags.Part) → bag holding.old p ≤ 2 ^ 19 }
     requires free { states.IsFreeFor holding.old.program (bag holding.old) (peeks.Sees user_data) }
     ensures gained { Gains holding.old holding.new (rules.got_bag holding.old.program (peeks.Sees user_data)) }
-    ensures made { IsProgram holding.old.program }
+    ensures made { IsView holding.old.program }
 {
-    give_line(holding, token_of(holding.program(), user_data));
+    give_line(holding, token_of(holding.view(), user_data));
     holding.give(Part::Token(user_data));
 }
 
 fn give_line(holding: &mut Holding, token: Option<Token>)
     requires small { (p : bags.Part) → bag holding.old p ≤ 2 ^ 19 }
-    requires made { IsProgram holding.old.program }
+    requires made { IsView holding.old.program }
     requires declared { states.IsLine holding.old.program token }
     ensures { Gains holding.old holding.new (kinds.line_bag holding.old.program (kinds.kinds_at token)) }
 {
@@ -197,7 +197,7 @@ fn give_line(holding: &mut Holding, token: Option<Token>)
 
 fn give_shares(holding: &mut Holding, token: Token)
     requires small { (p : bags.Part) → bag holding.old p ≤ 2 ^ 19 }
-    requires made { IsProgram holding.old.program }
+    requires made { IsView holding.old.program }
     requires declared { states.IsLine holding.old.program (Some token) }
     ensures { Gains holding.old holding.new (kinds.line_bag holding.old.program (kinds_in token)) }
 {
@@ -217,6 +217,6 @@ fn give_least(holding: &mut Holding, token: Token, buffer: usize)
     requires few { kinds.line_bag holding.old.program (kinds_in token) (bags.ShareOf buffer) ≤ 16 }
     ensures { Gains holding.old holding.new (bags.shares_bag buffer (kinds.line_bag holding.old.program (kinds_in token) (bags.ShareOf buffer))) }
 {
-    let count = shares_of(holding.program(), token, buffer);
+    let count = shares_of(holding.view(), token, buffer);
     holding.give(Part::Shares(buffer, count));
 }

@@ -3,7 +3,8 @@
 ghost use Rattle.std.specs.Prelude.{◌≡◌, ◌+◌, ◌≤◌, ◌^◌, nat_eq, nat_le};
 ghost use Rattle.std.specs.List.{list_all, list_any};
 ghost use Rattle.rc_lang.specs.Parts.{view_items};
-ghost use Rattle.rc_lang.specs.Program.{IsItems, IsProgram};
+ghost use Rattle.rc_lang.specs.Program.{IsItems};
+ghost use Rattle.rc_lang.specs.Views.{IsView};
 ghost use Rattle.rc_rules.specs.Rules as rules;
 ghost use Rattle.rc_rules.specs.States as states;
 ghost use Rattle.rc_split.specs.Bags as bags;
@@ -31,10 +32,10 @@ pub fn take(holding: &mut Holding, mode: Mode, items: &Items) -> Option<Mode>
 fn can_take(holding: &Holding, mode: Mode, items: &Items) -> bool
     requires { IsItems holding.now.program (view_items items.now) }
     ensures answer { result ≡ rules.can_take holding.now.program (bag holding.now) mode (view_items items.now) }
-    ensures made { IsProgram holding.now.program }
+    ensures made { IsView holding.now.program }
 {
-    // Any of a program's readers says that it was made, and so how many of each part there are at most.
-    let _ = holding.program();
+    // This says that the view is one of a made program, and so how many of each part there are at most.
+    let _ = holding.view();
     has_room(holding, items) && !names_peeked(&items.tokens, peeked_of(mode))
 }
 
@@ -61,7 +62,7 @@ fn shares_fit(holding: &Holding, shares: &[Share]) -> bool
 fn share_fits(holding: &Holding, share: Share) -> bool
     ensures { result ≡ states.share_fits holding.now share }
 {
-    let shares = holding.program().shares_at(share.buffer);
+    let shares = holding.view().shares_at(share.buffer);
     if shares < share.count {
         return false;
     }
@@ -84,7 +85,7 @@ fn token_fits(holding: &Holding, user_data: u64) -> bool
 fn credits_fit(holding: &Holding, credits: u32) -> bool
     ensures { result ≡ nat_le (bag holding.now bags.Credit + credits) holding.now.program.completion_entries }
 {
-    let entries = holding.program().completion_entries();
+    let entries = holding.view().completion_entries();
     if entries < credits {
         return false;
     }

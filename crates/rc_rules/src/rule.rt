@@ -91,9 +91,9 @@ fn after(holding: &mut Holding, mode: Mode, rule: Rule) -> Option<Mode>
             holding.lose(items);
             Some(mode)
         }
-        Rule::Lock(takes) => Some(locked(holding.program(), takes, mode)),
+        Rule::Lock(takes) => Some(locked(holding.view(), takes, mode)),
         Rule::Release(releases) => Some(freed(releases, mode)),
-        Rule::If(test) => Some(behind_test(holding.program(), test, mode)),
+        Rule::If(test) => Some(behind_test(holding.view(), test, mode)),
         Rule::Take(_, items) => pool::take(holding, mode, items),
         Rule::Case(user_data) => in_case(holding, mode, user_data),
         Rule::Other => Some(in_arm(Peeked::SeesOther, mode)),

@@ -3,6 +3,7 @@
 ghost use Rattle.std.specs.Prelude.{◌≡◌, ◌↔◌, ◌∷◌, [], map, nat_le, IsTrue, None, true};
 ghost use Rattle.rc_lang.specs.Parts.{view_items};
 ghost use Rattle.rc_lang.specs.Program.{IsItems, IsList};
+ghost use Rattle.rc_lang.specs.Views.{seen};
 ghost use Rattle.rc_rules.specs.Labels.{Live, IsSame, IsStrongest};
 ghost use Rattle.rc_rules.specs.OneRule as one;
 ghost use Rattle.rc_rules.specs.Premises.{Tests};
@@ -18,7 +19,8 @@ use crate::mode::{Mode, Peeked, unlocked};
 use crate::needs::{Asks, checked, credits_out, is_met};
 use crate::rule::{Rule, follow};
 use rc_lang::lines::{Locks, Stmt};
-use rc_lang::program::{Items, Program};
+use rc_lang::program::Items;
+use rc_lang::view::View;
 use rc_split::holding::Holding;
 use rc_split::part::Part;
 use std::marker::Model;
@@ -43,22 +45,22 @@ impl<'a> Model for Side<'a> {
 
 impl<'a> Side<'a> {
     /// Nothing reaches the side.
-    pub fn dead(program: &'a Program) -> Side<'a>
-        ensures { result ≡ record { program = program.now; live = None } }
+    pub fn dead(view: View<'a>) -> Side<'a>
+        ensures { result ≡ record { program = seen view.entry; live = None } }
     {
         Side {
-            holding: Holding::nothing(program),
+            holding: Holding::nothing(view),
             mode: None,
         }
     }
 
     /// A thread begins with these items, without a lock.
-    pub fn first(program: &'a Program, items: &Items) -> Side<'a>
-        requires { IsItems program.now (view_items items.now) }
+    pub fn first(view: View<'a>, items: &Items) -> Side<'a>
+        requires { IsItems (seen view) (view_items items.now) }
         ensures label { IsSame (spec.side_label result) (Live (bag_of (view_items items.now)) rules.unlocked) }
-        ensures of { result.program ≡ program.now }
+        ensures of { result.program ≡ seen view.entry }
     {
-        let mut holding = Holding::nothing(program);
+        let mut holding = Holding::nothing(view);
         holding.hold(items);
         Side {
             holding,
@@ -71,7 +73,7 @@ impl<'a> Side<'a> {
         ensures { result ≡ self.now }
     {
         if self.mode.is_none() {
-            return Side::dead(self.holding.program());
+            return Side::dead(self.holding.view());
         }
         Side {
             holding: self.holding.again(),
@@ -85,7 +87,7 @@ impl<'a> Side<'a> {
     {
         match other.mode {
             Some(_) => self.holding.copy_from(&other.holding),
-            None => self.holding.belong_to(other.holding.program()),
+            None => self.holding.belong_to(other.holding.view()),
         }
         self.mode = other.mode;
     }
@@ -97,19 +99,19 @@ impl<'a> Side<'a> {
         self.mode = None;
     }
 
-    /// Becomes a side of the program that nothing reaches.
-    pub fn die_in(&mut self, program: &'a Program)
-        ensures { self.new ≡ record { program = program.now; live = None } }
+    /// Becomes a side of this view that nothing reaches.
+    pub fn die_in(&mut self, view: View<'a>)
+        ensures { self.new ≡ record { program = seen view.entry; live = None } }
     {
-        self.holding.belong_to(program);
+        self.holding.belong_to(view);
         self.mode = None;
     }
 
-    /// The program of the side.
-    pub fn program(&self) -> &'a Program
-        ensures { result.now ≡ self.now.program }
+    /// The program, as the side's thread names its parts.
+    pub fn view(&self) -> View<'a>
+        ensures { seen result ≡ self.now.program }
     {
-        self.holding.program()
+        self.holding.view()
     }
 
     /// Whether something reaches the side.
@@ -146,7 +148,7 @@ impl<'a> Side<'a> {
         }
     }
 
-    /// How many declared tokens aren't held: none where nothing reaches the side.
+    /// How many of the view's tokens aren't held: none where nothing reaches the side.
     pub fn lacking(&self) -> u32
         ensures { result ≡ spec.lacked_at self.now.program (spec.side_label self.now) }
     {
@@ -245,7 +247,7 @@ impl<'a> Side<'a> {
         ensures label { IsSame (spec.side_label self.new) (Live (bag_on zero (view_items items.now)) (rules.top_mode self.old.program (view_items items.now) mode)) }
         ensures of { self.new.program ≡ self.old.program }
     {
-        self.mode = Some(blocks::top_mode(self.holding.program(), items, mode));
+        self.mode = Some(blocks::top_mode(self.holding.view(), items, mode));
         self.holding.hold_on(items, zero);
     }
 
@@ -260,7 +262,7 @@ impl<'a> Side<'a> {
         }
     }
 
-    /// What holds where this side and another join, both of one program. Unless one is dead, both have the same locks,
+    /// What holds where this side and another join, both of one view. Unless one is dead, both have the same locks,
     /// their slots are at one stage, and the front completion is got on both or on neither.
     pub fn meet(&mut self, other: &Side<'a>)
         requires of { other.now.program ≡ self.old.program }

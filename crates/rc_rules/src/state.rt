@@ -4,6 +4,7 @@ ghost use Rattle.std.specs.Prelude.{◌≡◌, ◌<◌, ◌∷◌, [], Bool, tru
 ghost use Rattle.rc_lang.specs.Parts.{view_items};
 ghost use Rattle.rc_lang.specs.Program as programs;
 ghost use Rattle.rc_lang.specs.Program.{DeclaresToken, IsItems};
+ghost use Rattle.rc_lang.specs.Views.{seen, view_of};
 ghost use Rattle.rc_lang.specs.declared.lines.Op.{Op};
 ghost use Rattle.rc_lang.specs.declared.lines.Stmt.TheVariants as stmts;
 ghost use Rattle.rc_lang.specs.declared.lines.Test.TheVariants as tests;
@@ -25,6 +26,7 @@ use crate::side::Side;
 use crate::{blocks, ops};
 use rc_lang::lines::{Comparison, Locks, Op, Stmt, Test};
 use rc_lang::program::{Items, Program};
+use rc_lang::view::View;
 use std::alloc::{AllocError, Global};
 use std::marker::Model;
 
@@ -66,7 +68,7 @@ pub fn transfer(state: &mut State, stmt: &Stmt) -> Result<(), Cause>
 fn header(program: &Program, thread: u32) -> &Items
     requires { thread < length program.now.threads }
     ensures items { (t : programs.Thread) → slice_get program.now.threads thread ≡ Some t → view_items result.now ≡ t.items }
-    ensures made { IsItems program.now (view_items result.now) }
+    ensures made { IsItems (view_of program.now thread) (view_items result.now) }
 {
     &program.threads()[thread as usize].items
 }
@@ -85,10 +87,11 @@ impl<'a> State<'a> {
         requires { thread < length program.now.threads }
         ensures { spec.IsStart program.now thread result }
     {
+        let view = program.view(thread as usize);
         State {
             flag: program.threads()[thread as usize].flag(),
-            zero: Side::first(program, header(program, thread)),
-            other: Side::dead(program),
+            zero: Side::first(view, header(program, thread)),
+            other: Side::dead(view),
         }
     }
 
@@ -119,16 +122,16 @@ impl<'a> State<'a> {
         self.other.copy_from(&other.other);
     }
 
-    /// A state of the program, and of a thread with this flag, that nothing reaches.
-    pub fn dead(program: &'a Program, flag: Option<usize>) -> State<'a>
+    /// A state of the view, and of a thread with this flag, that nothing reaches.
+    pub fn dead(view: View<'a>, flag: Option<usize>) -> State<'a>
         ensures dead { spec.OnBoth (λ s. s ≡ Dead) result }
-        ensures of { spec.program_of result ≡ program.now }
+        ensures of { spec.program_of result ≡ seen view.entry }
         ensures flag { result.flag ≡ flag }
     {
         State {
             flag,
-            zero: Side::dead(program),
-            other: Side::dead(program),
+            zero: Side::dead(view),
+            other: Side::dead(view),
         }
     }
 
@@ -147,15 +150,15 @@ impl<'a> State<'a> {
         ensures of { spec.IsOfSame self.new other.now }
     {
         self.flag = other.flag;
-        self.zero.die_in(other.program());
-        self.other.die_in(other.program());
+        self.zero.die_in(other.view());
+        self.other.die_in(other.view());
     }
 
-    /// The program of the state.
-    pub fn program(&self) -> &'a Program
-        ensures { result.now ≡ spec.program_of self.now }
+    /// The program, as the state's thread names its parts.
+    pub fn view(&self) -> View<'a>
+        ensures { seen result ≡ spec.program_of self.now }
     {
-        self.zero.program()
+        self.zero.view()
     }
 
     /// The flag of the state's thread.

@@ -15,6 +15,7 @@ use Rattle.rc_run.specs.declared.scheduler.State.TheVariants.{Running, Ready, Wa
 use Rattle.rc_run.specs.Lives.{HoldersGo, Live, can_move, has_ended, is_end, is_ready, is_taken_lock}
 use Rattle.rc_run.specs.Scheduler.{AnyRuns, Dispatches, MovesOn, NobodyIn, RunQueue, due, is_due, is_held_back, is_running, state_at}
 use Rattle.rc_run.specs.LockedRun.{LockedRun}
+use Rattle.rc_world.proofs.LawSteps.{past_lines}
 
 -- Nobody up to the next place either.
 pub nobody_more : (test : ℕ → Bool) (from n : ℕ) → NobodyIn test from n → test n ≡ false → NobodyIn test from (n + 1)
@@ -34,7 +35,7 @@ no_thread w i past = ap (next_by w.controls.holders) (no_line (slice_get w.contr
 
     no_line : (t : Option Standing) → next_at w.program i t ≡ None
     no_line None = refl
-    no_line (Some t) = slice_get_past (lines_of w.program i) t.place (subst (λ (ls : List Line). length ls ≤ t.place) (sym no_lines) (omega arith))
+    no_line (Some t) = past_lines w.program i t (subst (λ (ls : List Line). length ls ≤ t.place) (sym no_lines) (omega arith))
 
 -- Where none of the threads runs and can make an event, nobody does.
 pub nobody_runs : (s : Live) (q : RunQueue) (n : ℕ) → length s.world.program.threads ≤ n → ((j : ℕ) → j < n → state_at q.states j ≡ Running → can_move s.world j ≢ true) → AnyRuns s q → ⊥

@@ -25,6 +25,7 @@ use Rattle.rc_run.specs.Held.{AreDistinct}
 use Rattle.rc_run.specs.Machine.{IsClosedAt, IsFreshAt, given_by_take, submit_answer}
 use Rattle.rc_run.specs.Requests.{data_of}
 use Rattle.rc_world.proofs.LawFaultless.{standing_within}
+use Rattle.rc_world.proofs.LawSteps.{past_lines}
 
 -- ---- the next line
 
@@ -64,7 +65,7 @@ has_step w c i l e = go (c.goes_on i (standing_within w i l next))
     go : GoesOn w i → (r : ℤ) → may_be_given w r l.stmt ≡ true → (s : Event × World) × (thread_step w i r ≡ Some s)
     go (inl z) r given =
         let none : next_line w.program w.controls i ≡ None =
-        ap (next_at w.program i) z.1 ∙ slice_get_past (lines_of w.program i) z.0.place (let q : z.0.place ≡ length (lines_of w.program i) = z.2 in omega arith) in
+        ap (next_at w.program i) z.1 ∙ past_lines w.program i z.0 (let q : z.0.place ≡ length (lines_of w.program i) = z.2 in omega arith) in
         absurd (cc)
     go (inr (inl z)) r given =
         let taken : next_of w.program w.controls i ≡ TakenLock z.1 =

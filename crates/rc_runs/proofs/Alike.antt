@@ -1,5 +1,5 @@
 -- Worlds that differ only in variables on which nothing depends.
-use Rattle.std.proofs.Common.{◌≡◌, ℕ, ℤ, ◌+◌, ◌-◌, ◌||◌, Bool, true, false, if◌then◌else◌, List, [], ◌∷◌, ◌++◌, drop, take, length, length-drop, Option, Some, None, nat_lt, slice_get, slice_set, refl, sym, ap, subst, ◌∙◌, arith}
+use Rattle.std.proofs.Common.{◌≡◌, ℕ, ℤ, ◌+◌, ◌-◌, ◌||◌, Bool, true, false, if◌then◌else◌, List, [], ◌∷◌, ◌++◌, drop, take, length, length-drop, Option, Some, None, nat_lt, slice_get, slice_set, refl, sym, ap, subst, ◌∙◌, arith, ◌&&◌}
 use Rattle.std.proofs.lemmas.Bool.{ltb-false}
 use Rattle.std.proofs.lemmas.List.{nil_from_length}
 use Rattle.std.proofs.Math.Seq.{drop-nil, take-nil}
@@ -8,7 +8,7 @@ use Rattle.rc_lang.specs.declared.lines.Op.{Op}
 use Rattle.rc_lang.specs.declared.lines.Op.TheVariants.{Set, Assign, Add, Subtract, Load, Store, Fill, Print, GetSqe, PrepRead, PrepWrite, PrepFsync, PrepNop, PrepOther, SetData64, Submit, SubmitAndWait, CqeGetData64, CqeSeen}
 use Rattle.rc_lang.specs.declared.lines.Stmt.{Stmt}
 use Rattle.rc_lang.specs.declared.lines.Stmt.TheVariants.{Do, Put, Lock, EndLock, If, Else, EndIf, Peek, Case, Other, Nothing, EndArm, EndPeek, Loop, EndLoop, Break}
-use Rattle.rc_lang.specs.Program.{line_at}
+use Rattle.rc_lang.specs.Program.{line_at, IsProgram}
 use Rattle.rc_world.specs.declared.controls.Answer.{Answer}
 use Rattle.rc_world.specs.declared.controls.Look.TheVariants.{Unseen}
 use Rattle.rc_world.specs.declared.event.Completion.{Completion}
@@ -19,22 +19,24 @@ use Rattle.rc_lang.specs.declared.request.Request.{Request}
 use Rattle.rc_world.specs.declared.fault.FaultKind.{FaultKind}
 use Rattle.rc_world.specs.declared.fault.Party.TheVariants.{At}
 use Rattle.rc_world.specs.declared.fault.FaultKind.TheVariants.{WriteOfPending, ReadOfFilling, KernelClash, ThreadRace, RingFull, Overflow, AmbiguousData, UnknownReap, NoLock, RawEntry, OutOfBuffer, DoublePut}
-use Rattle.rc_world.specs.Controls.{Controls, Move, Standing, acts, as_event, made, moved, next_at, next_line, passes_arm, rest_at}
-use Rattle.rc_world.specs.Faults.{Access, access_at, access_of, all_kinds, conflicts, fault_at, fault_of, faults_by, faults_from, has_fault, kernel_faults, races_from}
+use Rattle.rc_world.specs.Controls.{Controls, Move, Standing, acts, as_event, made, moved, next_at, next_line, passes_arm, rest_at, variables_in}
+use Rattle.rc_world.specs.Faults.{Access, access_at, access_of, all_kinds, conflicts, fault_at, fault_of, faults_by, faults_from, has_fault, kernel_faults, races_from, is_double_at, may_put}
 use Rattle.rc_world.specs.Machine.{World, all_begin, count_in, fits_buffer, gets_front, hands_over, in_rings, is_take, op_in_rings, opens_entry, prepares, stmt_answer, submits_by, thread_step, thread_step_at, with_controls}
 use Rattle.rc_runs.specs.Closing.{AreLikeStandings, IfBoth, IsLike, Pairwise, line_follows, op_follows, stmt_follows, with_threads}
 use Rattle.rc_runs.specs.Stuck.{line_moves, op_moves, stmt_moves}
 use Rattle.rc_runs.proofs.Still.{step_is}
 use Rattle.rc_runs.proofs.AlikeMoves.{AreMovesAlike, acts_like, pairs_many, pairs_set}
+use Rattle.rc_lang.proofs.Reading.{line_alone, list_alone}
+use Rattle.rc_split.specs.Pools.{all_pooled, overfills}
 
 -- ---- the world
 
-module _ (kept : List Bool) (w : World) (ts : List Standing) (threads : Pairwise (AreLikeStandings kept) ts w.controls.threads) where
+module _ (kept : List Bool) (w : World) (ts : List Standing) (threads : Pairwise (AreLikeStandings kept) ts w.controls.threads) (program_made : IsProgram w.program) where
   place_like : (i : ℕ) (o p : Option Standing) → IfBoth (AreLikeStandings kept i) o p → next_at w.program i o ≡ next_at w.program i p
   place_like i None None h = refl
   place_like i None (Some u) h = absurd h
   place_like i (Some t) None h = absurd h
-  place_like i (Some t) (Some u) h = ap (line_at w.program i) h.place
+  place_like i (Some t) (Some u) h = line_alone w.program program_made i t.variables t.place ∙ ap (line_at w.program i) h.place ∙ sym (line_alone w.program program_made i u.variables u.place)
 
   pub line_like : (i : ℕ) → next_line w.program (record w.controls { threads = ts }) i ≡ next_line w.program w.controls i
   line_like i = place_like i (slice_get ts i) (slice_get w.controls.threads i) (threads i)
@@ -50,6 +52,12 @@ module _ (kept : List Bool) (w : World) (ts : List Standing) (threads : Pairwise
   many_like : length ts ≡ length w.controls.threads
   many_like = pairs_many (AreLikeStandings kept) ts w.controls.threads threads
 
+  double_like : (i : ℕ) (s : Stmt) → is_double_at (with_threads w ts) i s ≡ is_double_at w i s
+  double_like i (Put pool k) =
+      let read = λ (o : Option Standing). list_alone w.program program_made i (variables_in o) k in
+      ap (λ items. may_put w i pool && overfills w.program (all_pooled w.program w.controls.pools) items) (read (slice_get ts i) ∙ sym (read (slice_get w.controls.threads i)))
+  double_like i _ = refl
+
   has_like : (kind : FaultKind) (i : ℕ) (s : Stmt) → has_fault (with_threads w ts) kind i s ≡ has_fault w kind i s
   has_like WriteOfPending i s = refl
   has_like ReadOfFilling i s = refl
@@ -62,7 +70,7 @@ module _ (kept : List Bool) (w : World) (ts : List Standing) (threads : Pairwise
   has_like NoLock i s = refl
   has_like RawEntry i s = refl
   has_like OutOfBuffer i s = refl
-  has_like DoublePut i s = refl
+  has_like DoublePut i s = double_like i s
 
   fault_like : (kind : FaultKind) (i : ℕ) (o : Option Line) → fault_at (with_threads w ts) kind i o ≡ fault_at w kind i o
   fault_like kind i None = refl
@@ -170,7 +178,7 @@ module _ (w : World) (ts : List Standing) where
   rings_like kept i t u r (EndLoop o k) q p = refl
   rings_like kept i t u r (Break o releases leaves) q p = refl
 
-module _ (kept : List Bool) (w : World) (ts : List Standing) (threads : Pairwise (AreLikeStandings kept) ts w.controls.threads) (i : ℕ) (l : Line) where
+module _ (kept : List Bool) (w : World) (ts : List Standing) (threads : Pairwise (AreLikeStandings kept) ts w.controls.threads) (program_made : IsProgram w.program) (i : ℕ) (l : Line) where
   abbrev own : Controls
   own = record w.controls { threads = ts }
 
@@ -200,20 +208,20 @@ module _ (kept : List Bool) (w : World) (ts : List Standing) (threads : Pairwise
   ends_like (Some a) (Some b) (Some m) None h k = absurd k
   ends_like (Some a) (Some b) (Some m) (Some n) h k = made_like a b m n h k
 
-  at_line_like : (t u : Standing) (r : ℤ) → slice_get ts i ≡ Some t → slice_get w.controls.threads i ≡ Some u → AreLikeStandings kept i t u → line_at w.program i u.place ≡ Some l → stmt_moves w i l.stmt ≡ false → stmt_follows kept i l.stmt ≡ true →
+  at_line_like : (t u : Standing) (r : ℤ) → slice_get ts i ≡ Some t → slice_get w.controls.threads i ≡ Some u → AreLikeStandings kept i t u → next_at w.program i (Some u) ≡ Some l → stmt_moves w i l.stmt ≡ false → stmt_follows kept i l.stmt ≡ true →
       AreStepsAlike kept (thread_step (with_threads w ts) i r) (thread_step w i r)
   at_line_like t u r here there alike line q p =
       let a : Answer = stmt_answer w r l.stmt in
       let same_place : t ≡ record { place = u.place; variables = t.variables } = ap (λ (n : ℕ). record { place = n; variables = t.variables }) alike.place in
       let acted : IfBoth (AreMovesAlike kept i) (acts w.program own i t l.stmt a) (acts w.program w.controls i u l.stmt a) =
-      subst (λ (x : Standing). IfBoth (AreMovesAlike kept i) (acts w.program own i x l.stmt a) (acts w.program w.controls i u l.stmt a)) (sym same_place) (acts_like kept i w.controls ts u.place t.variables u.variables alike.many alike.same w.program l.stmt p a)
+      subst (λ (x : Standing). IfBoth (AreMovesAlike kept i) (acts w.program own i x l.stmt a) (acts w.program w.controls i u l.stmt a)) (sym same_place) (acts_like kept i w.controls ts u.place t.variables u.variables alike.many alike.same w.program program_made l.stmt p a)
       in
       let ended = ends_like _ _ _ _ (rings_like w ts kept i t u r l.stmt q p) acted in
-      let first = step_is (with_threads w ts) i t l here r (ap (line_at w.program i) alike.place ∙ line) in
+      let first = step_is (with_threads w ts) i t l here r (place_like kept w ts threads program_made i (Some t) (Some u) alike ∙ line) in
       let second = step_is w i u l there r line in
       subst (λ s. AreStepsAlike kept s (thread_step w i r)) (sym first) (subst (λ s. AreStepsAlike kept (with_controls (in_rings (with_threads w ts) t r l.stmt) (as_event w.program i l (made w.program own i (acts w.program own i t l.stmt a)))) s) (sym second) ended)
 
-module _ (kept : List Bool) (w : World) (ts : List Standing) (threads : Pairwise (AreLikeStandings kept) ts w.controls.threads) where
+module _ (kept : List Bool) (w : World) (ts : List Standing) (threads : Pairwise (AreLikeStandings kept) ts w.controls.threads) (program_made : IsProgram w.program) where
   no_line : (v : World) (i : ℕ) (r : ℤ) → next_line v.program v.controls i ≡ None → thread_step v i r ≡ None
   no_line v i r none = go (slice_get v.controls.threads i) refl
     where
@@ -227,21 +235,21 @@ module _ (kept : List Bool) (w : World) (ts : List Standing) (threads : Pairwise
     where
       none_like : next_line w.program w.controls i ≡ None → AreStepsAlike kept (thread_step (with_threads w ts) i r) (thread_step w i r)
       none_like none =
-          let first : thread_step (with_threads w ts) i r ≡ None = no_line (with_threads w ts) i r (line_like kept w ts threads i ∙ none) in
+          let first : thread_step (with_threads w ts) i r ≡ None = no_line (with_threads w ts) i r (line_like kept w ts threads program_made i ∙ none) in
           let second : thread_step w i r ≡ None = no_line w i r none in
           subst (λ s. AreStepsAlike kept s (thread_step w i r)) (sym first) (subst (λ s. AreStepsAlike kept None s) (sym second) tt)
 
-      at_lines : (t u : Standing) → slice_get ts i ≡ Some t → slice_get w.controls.threads i ≡ Some u → AreLikeStandings kept i t u → (o : Option Line) → line_at w.program i u.place ≡ o → AreStepsAlike kept (thread_step (with_threads w ts) i r) (thread_step w i r)
+      at_lines : (t u : Standing) → slice_get ts i ≡ Some t → slice_get w.controls.threads i ≡ Some u → AreLikeStandings kept i t u → (o : Option Line) → next_at w.program i (Some u) ≡ o → AreStepsAlike kept (thread_step (with_threads w ts) i r) (thread_step w i r)
       at_lines t u here there alike None line = none_like (ap (next_at w.program i) there ∙ line)
       at_lines t u here there alike (Some l) line =
           let next_is : next_line w.program w.controls i ≡ Some l = ap (next_at w.program i) there ∙ line in
-          at_line_like kept w ts threads i l t u r here there alike line (sym (ap (line_moves w i) next_is) ∙ q) (sym (ap (line_follows kept i) next_is) ∙ p)
+          at_line_like kept w ts threads program_made i l t u r here there alike line (sym (ap (line_moves w i) next_is) ∙ q) (sym (ap (line_follows kept i) next_is) ∙ p)
 
       at_threads : (o x : Option Standing) → slice_get ts i ≡ o → slice_get w.controls.threads i ≡ x → IfBoth (AreLikeStandings kept i) o x → AreStepsAlike kept (thread_step (with_threads w ts) i r) (thread_step w i r)
       at_threads None None here there alike = none_like (ap (next_at w.program i) there)
       at_threads None (Some u) here there alike = absurd alike
       at_threads (Some t) None here there alike = absurd alike
-      at_threads (Some t) (Some u) here there alike = at_lines t u here there alike (line_at w.program i u.place) refl
+      at_threads (Some t) (Some u) here there alike = at_lines t u here there alike (next_at w.program i (Some u)) refl
 
 -- ---- worlds that are alike
 

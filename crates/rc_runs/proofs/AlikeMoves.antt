@@ -10,14 +10,15 @@ use Rattle.rc_lang.specs.declared.lines.Stmt.{Stmt}
 use Rattle.rc_lang.specs.declared.lines.Stmt.TheVariants.{Do, Put, Lock, EndLock, If, Else, EndIf, Peek, Case, Other, Nothing, EndArm, EndPeek, Loop, EndLoop, Break}
 use Rattle.rc_lang.specs.declared.lines.Test.{Test}
 use Rattle.rc_lang.specs.declared.lines.Test.TheVariants.{Compare, ReadyZero, SpaceAtLeast, Take, Any}
-use Rattle.rc_lang.specs.Program.{Program, items_at, lists_of}
+use Rattle.rc_lang.specs.Program.{Program, IsProgram, Items}
 use Rattle.rc_split.specs.Pools.{all_pooled, includes, overfills, pool_of, put_into, taken_from}
 use Rattle.rc_world.specs.declared.controls.Answer.{Answer}
 use Rattle.rc_world.specs.declared.event.Action.TheVariants.{ItemsPut}
 use Rattle.rc_world.specs.declared.controls.Answer.TheVariants.{Plain, Number, Byte, Front}
 use Rattle.rc_world.specs.Controls as controls
-use Rattle.rc_world.specs.Controls.{Controls, Move, Standing, acts, as_event, branches, does, goes_on, is_choice, made, moved, next_at, next_line, operand_value, passes_arm, peeks, plainly, rest_at, variable, wrapped}
+use Rattle.rc_world.specs.Controls.{Controls, Move, Standing, acts, as_event, branches, does, goes_on, is_choice, made, moved, next_at, next_line, operand_value, passes_arm, peeks, plainly, rest_at, variable, wrapped, list_at}
 use Rattle.rc_runs.specs.Closing.{IfBoth, Pairwise, matters, op_follows, operand_matters, stmt_follows, test_follows}
+use Rattle.rc_lang.proofs.Reading.{list_alone}
 
 -- ---- lists of things that are alike, place by place
 
@@ -164,14 +165,18 @@ module _ (kept : List Bool) (i : ℕ) (c : Controls) (ts : List Standing) (place
   does_like CqeSeen p (Byte n) = tt
   does_like CqeSeen p (Front cqe) = left _ _ refl refl refl refl refl refl
 
-  module _ (P : Program) where
+  module _ (P : Program) (program_made : IsProgram P) where
+    -- a list has the same items at the values of both
+    same_list : (k : ℕ) → list_at P i t k ≡ list_at P i u k
+    same_list k = list_alone P program_made i vs k ∙ sym (list_alone P program_made i us k)
+
     branch_like : (b : Bool) → AreLikeMoves (branches P cu i t b) (branches P c i u b)
     branch_like b = left _ _ refl refl refl refl refl refl
 
-    takes_like : (pool : Option ℕ) (k : ℕ) (b : Bool) →
-        AreLikeMoves (if b then record (branches P cu i t true) { pools = taken_from P pool (items_at (lists_of P i) k) c.pools } else branches P cu i t false) (if b then record (branches P c i u true) { pools = taken_from P pool (items_at (lists_of P i) k) c.pools } else branches P c i u false)
-    takes_like pool k true = left _ _ refl refl refl refl refl refl
-    takes_like pool k false = branch_like false
+    takes_like : (pool : Option ℕ) (items : Items) (b : Bool) →
+        AreLikeMoves (if b then record (branches P cu i t true) { pools = taken_from P pool items c.pools } else branches P cu i t false) (if b then record (branches P c i u true) { pools = taken_from P pool items c.pools } else branches P c i u false)
+    takes_like pool items true = left _ _ refl refl refl refl refl refl
+    takes_like pool items false = branch_like false
 
     decides_like : (test : Test) → test_follows kept i test ≡ true → (a : Answer) → IfBoth AreLikeMoves (controls.decides P cu i t test a) (controls.decides P c i u test a)
     decides_like (Compare x comparison n) p a =
@@ -187,7 +192,9 @@ module _ (kept : List Bool) (i : ℕ) (c : Controls) (ts : List Standing) (place
     decides_like (SpaceAtLeast m) p (Number n) = branch_like _
     decides_like (SpaceAtLeast m) p (Byte b) = tt
     decides_like (SpaceAtLeast m) p (Front cqe) = tt
-    decides_like (Take pool k) p a = plain _ _ (takes_like pool k (includes P (pool_of c.pools pool) (items_at (lists_of P i) k))) a
+    decides_like (Take pool k) p a =
+        let items : Items = list_at P i u k in
+        subst (λ (x : Items). IfBoth AreLikeMoves (plainly (controls.tries_to_take P cu i t pool x) a) (plainly (controls.tries_to_take P c i u pool items) a)) (sym (same_list k)) (plain _ _ (takes_like pool items (includes P (pool_of c.pools pool) items)) a)
     decides_like Any p Plain = tt
     decides_like Any p (Number n) = if_like (is_choice n) _ _ (branch_like _)
     decides_like Any p (Byte b) = tt
@@ -195,11 +202,13 @@ module _ (kept : List Bool) (i : ℕ) (c : Controls) (ts : List Standing) (place
 
     pub acts_like : (s : Stmt) → stmt_follows kept i s ≡ true → (a : Answer) → IfBoth AreLikeMoves (acts P cu i t s a) (acts P c i u s a)
     acts_like (Do op) p a = does_like op p a
-    acts_like (Put pool k) p a = puts (overfills P (all_pooled P c.pools) (items_at (lists_of P i) k))
+    acts_like (Put pool k) p a =
+        let items : Items = list_at P i u k in
+        subst (λ (x : Items). IfBoth AreLikeMoves (controls.puts_items P cu t pool x a) (controls.puts_items P c u pool items a)) (sym (same_list k)) (puts items (overfills P (all_pooled P c.pools) items))
       where
-        puts : (b : Bool) → IfBoth AreLikeMoves (if b then None else plainly (record (goes_on cu t ItemsPut) { pools = put_into P pool (items_at (lists_of P i) k) c.pools }) a) (if b then None else plainly (record (goes_on c u ItemsPut) { pools = put_into P pool (items_at (lists_of P i) k) c.pools }) a)
-        puts true = tt
-        puts false = plain _ _ (left _ _ refl refl refl refl refl refl) a
+        puts : (items : Items) (b : Bool) → IfBoth AreLikeMoves (if b then None else plainly (record (goes_on cu t ItemsPut) { pools = put_into P pool items c.pools }) a) (if b then None else plainly (record (goes_on c u ItemsPut) { pools = put_into P pool items c.pools }) a)
+        puts items true = tt
+        puts items false = plain _ _ (left _ _ refl refl refl refl refl refl) a
     acts_like (Lock wanted) p a = if_like (controls.are_free wanted c.holders) _ _ (plain _ _ (left _ _ refl refl refl refl refl refl) a)
     acts_like (EndLock o released) p a = plain _ _ (left _ _ refl refl refl refl refl refl) a
     acts_like (If test) p a = decides_like test p a

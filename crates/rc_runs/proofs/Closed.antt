@@ -1,5 +1,5 @@
 -- Worlds from which nothing goes on.
-use Rattle.std.proofs.Common.{◌≡◌, ℕ, zero, suc, ℤ, pos, ◌+◌, ◌<◌, ◌≤◌, ◌&&◌, ◌||◌, ◌⊎◌, inl, inr, Bool, true, false, List, [], ◌∷◌, ◌++◌, get_or, length, length-append, nat_lt, Option, Some, None, is_some, option_map, slice_get, refl, sym, ap, subst, ◌∙◌, arith}
+use Rattle.std.proofs.Common.{◌≡◌, ℕ, zero, suc, ℤ, pos, ◌+◌, ◌<◌, ◌≤◌, ◌&&◌, ◌||◌, ◌⊎◌, inl, inr, Bool, true, false, List, [], ◌∷◌, ◌++◌, get_or, length, length-append, nat_lt, Option, Some, None, is_some, option_map, slice_get, refl, sym, ap, subst, ◌∙◌, arith, if◌then◌else◌}
 use Rattle.std.proofs.lemmas.Bool.{ltb-false, ltb-true, or_cases}
 use Rattle.std.proofs.lemmas.Bool.Decides.{Decides-int_eq}
 use Rattle.std.proofs.lemmas.List.{nil_from_length}
@@ -7,24 +7,26 @@ use Rattle.std.proofs.lemmas.Option.{same_Some, slice_get-get_or, slice_get_case
 use Rattle.std.specs.Ordering.{int_eq}
 use Rattle.rc_lang.specs.declared.lines.Line.{Line}
 use Rattle.rc_lang.specs.declared.lines.Stmt.{Stmt}
-use Rattle.rc_lang.specs.declared.lines.Stmt.TheVariants.{If}
+use Rattle.rc_lang.specs.declared.lines.Stmt.TheVariants.{If, Do, Lock}
 use Rattle.rc_lang.specs.declared.lines.Test.TheVariants.{Any}
 use Rattle.rc_world.specs.declared.controls.Holders.{Holders}
 use Rattle.rc_world.specs.declared.event.Event.{Event}
 use Rattle.rc_world.specs.declared.event.Item.{Item}
 use Rattle.rc_world.specs.declared.event.Item.TheVariants.{Thread, Kernel}
-use Rattle.rc_world.specs.Controls.{Standing, is_choice, next_at, next_line}
+use Rattle.rc_world.specs.Controls.{Standing, is_choice, next_at, next_line, are_free}
 use Rattle.rc_world.specs.Items.{given_at, is_enabled, is_ready, item_step, next_by, next_of, ready_or_taken, takes}
 use Rattle.rc_world.specs.declared.controls.Next.{Next}
 use Rattle.rc_world.specs.declared.controls.Next.TheVariants.{Ready, TakenLock, Ended}
 use Rattle.rc_world.specs.Faults.{fault_of}
 use Rattle.rc_world.specs.Machine.{Pending, World, thread_step}
-use Rattle.rc_lang.specs.Program.{Thread as ThreadPart}
+use Rattle.rc_lang.specs.Program.{Thread as ThreadPart, IsProgram, Program, Rows, line_at, rows_of}
 use Rattle.rc_world.specs.Trace.{all_ended_from, has_ended}
-use Rattle.rc_runs.specs.Closing.{AllLike, AreAlike, AreLikeStandings, Follows, GoesOnly, HasWorld, IsCalm, IsGrown, IsLed, IsLedAt, IsLike, IsQuiet, IsQuietAt, IsThreadLed, Leads, Pairwise, StillOnward, is_asked, line_follows, still, with_threads}
+use Rattle.rc_runs.specs.Closing.{AllLike, AreAlike, AreLikeStandings, Follows, GoesOnly, HasWorld, IsCalm, IsGrown, IsLed, IsLedAt, IsLike, IsQuiet, IsQuietAt, IsThreadLed, Leads, Pairwise, StillOnward, is_asked, line_follows, still, with_threads, IfBoth}
 use Rattle.rc_runs.specs.Stuck.{GoesBy, IsOnward, IsStill, counts, is_any, is_any_at, line_moves, moves}
 use Rattle.rc_runs.proofs.Alike.{AreStepsAlike, fault_same, like_on, like_same, line_like, steps_like}
 use Rattle.rc_runs.proofs.Still.{still_after}
+use Rattle.rc_lang.specs.Rows.{read_line, read_stmt}
+use Rattle.rc_lang.specs.declared.lines.Locks.{Locks}
 
 -- ---- each world that is reached is one of these, but for variables on which nothing depends
 
@@ -36,10 +38,36 @@ any_ready w take Ended h = absurd (cc)
 none_pending : (w : World) (u : ℕ) (res : ℤ) (fill : ℕ) → w.pending ≡ [] → is_enabled w (Kernel u res fill) ≡ false
 none_pending w u res fill none = ap (λ (ps : List Pending). is_enabled (record w { pending = ps }) (Kernel u res fill)) none
 
+-- whether a thread has ended is read off its line alone, and not off its variables
+lock_ends : (free : Bool) (x y : Line) (wanted : Locks) → has_ended (if free then Ready x else TakenLock wanted) ≡ has_ended (if free then Ready y else TakenLock wanted)
+lock_ends true x y wanted = refl
+lock_ends false x y wanted = refl
+
+ends_read : (P : Program) (rows : Rows) (vars : List ℤ) (h : Holders) (s : Stmt) (x y : Line) → has_ended (ready_or_taken h x (read_stmt P rows vars s)) ≡ has_ended (ready_or_taken h y s)
+ends_read P rows vars h (Do op) x y = refl
+ends_read P rows vars h (Lock wanted) x y = lock_ends (are_free wanted h) x y wanted
+ends_read P rows vars h _ x y = refl
+
+ended_here : (P : Program) (i : ℕ) (h : Holders) (t : Standing) → has_ended (next_by h (next_at P i (Some t))) ≡ has_ended (next_by h (line_at P i t.place))
+ended_here P i h t = go (line_at P i t.place)
+  where
+    go : (o : Option Line) → has_ended (next_by h (option_map (read_line P (rows_of P i) t.variables) o)) ≡ has_ended (next_by h o)
+    go None = refl
+    go (Some l) = ends_read P (rows_of P i) t.variables h l.stmt (read_line P (rows_of P i) t.variables l) l
+
 ended_like : (kept : List Bool) (a b : World) (i : ℕ) → IsLike kept a b → has_ended (next_of a.program a.controls i) ≡ has_ended (next_of b.program b.controls i)
 ended_like kept a b i like =
     ap (λ (x : World). has_ended (next_of x.program x.controls i)) like.rest
-    ∙ ap (λ (o : Option Line). has_ended (next_by b.controls.holders o)) (line_like kept b a.controls.threads like.threads i)
+    ∙ go (slice_get a.controls.threads i) (slice_get b.controls.threads i) (like.threads i)
+  where
+    go : (o p : Option Standing) → IfBoth (AreLikeStandings kept i) o p → has_ended (next_by b.controls.holders (next_at b.program i o)) ≡ has_ended (next_by b.controls.holders (next_at b.program i p))
+    go None None h = refl
+    go None (Some u) h = absurd h
+    go (Some t) None h = absurd h
+    go (Some t) (Some u) h =
+        ended_here b.program i b.controls.holders t
+        ∙ ap (λ j. has_ended (next_by b.controls.holders (line_at b.program i j))) h.place
+        ∙ sym (ended_here b.program i b.controls.holders u)
 
 -- the step of the other
 pub record StepsToo (kept : List Bool) (next : World) (o : Option (Event × World)) : Type 0 where
@@ -62,14 +90,14 @@ module _ (kept : List Bool) (ws : List World) (w : World) (quiet : IsQuiet kept 
       let enabled : is_enabled w (Kernel u res fill) ≡ true = goes.enabled in
       absurd (cc)
   goes_like (Thread i take) next goes =
-      let line : next_line w.program (record w.controls { threads = ts }) i ≡ next_line w.program w.controls i = line_like kept w ts threads i in
+      let line : next_line w.program (record w.controls { threads = ts }) i ≡ next_line w.program w.controls i = line_like kept w ts threads quiet.made i in
       let counted : counts w (Thread i take) ≡ true = sym (counts_like take) ∙ goes.counts in
       let enabled : is_ready w take (next_of w.program w.controls i) ≡ true = sym (ap (λ (o : Option Line). is_ready w take (next_by w.controls.holders o)) line) ∙ goes.enabled in
       let asked : is_asked w (Thread i None) ≡ true = any_ready w take (next_of w.program w.controls i) enabled in
       let follows = quiet.follows i asked in
       let r : ℤ = given_at (with_threads w ts) take (next_line w.program (record w.controls { threads = ts }) i) in
       let given : r ≡ given_at w take (next_line w.program w.controls i) = ap (λ (o : Option Line). given_at w take o) line in
-      let too = steps_too kept goes.step.0 next (thread_step (with_threads w ts) i r) (thread_step w i r) goes.step.1 (steps_like kept w ts threads i r follows.0 follows.1) in
+      let too = steps_too kept goes.step.0 next (thread_step (with_threads w ts) i r) (thread_step w i r) goes.step.1 (steps_like kept w ts threads quiet.made i r follows.0 follows.1) in
       let stepped : item_step w (Thread i take) ≡ Some (too.event, too.world) = sym (ap (λ (n : ℤ). thread_step w i n) given) ∙ too.step in
       let other : GoesBy w (Thread i take) too.world = record { no_fault = quiet.no_fault; counts = counted; enabled = enabled; step = (too.event, stepped) } in
       let led = quiet.leads (Thread i take) too.world other in
@@ -80,7 +108,7 @@ module _ (kept : List Bool) (ws : List World) (w : World) (quiet : IsQuiet kept 
     where
       counts_like : (take : Option ℤ) → counts (with_threads w ts) (Thread i take) ≡ counts w (Thread i take)
       counts_like None = refl
-      counts_like (Some r) = ap is_any_at (line_like kept w ts threads i)
+      counts_like (Some r) = ap is_any_at (line_like kept w ts threads quiet.made i)
 
 module _ (kept : List Bool) (ws : List World) (quiet : (k : ℕ) (w : World) → slice_get ws k ≡ Some w → IsQuiet kept ws w) where
   goes_on_like : (u : World) → HasWorld kept ws u → (item : Item) (next : World) → GoesBy u item next → (moves u item next ≡ false) × HasWorld kept ws next
@@ -96,7 +124,7 @@ module _ (kept : List Bool) (ws : List World) (quiet : (k : ℕ) (w : World) →
 
   still_there : (w : World) → HasWorld kept ws w → IsStill w
   still_there w h = record {
-    no_fault = ap fault_of h.3.rest ∙ fault_same kept h.1 w.controls.threads h.3.threads ∙ (quiet h.0 h.1 h.2).no_fault;
+    no_fault = ap fault_of h.3.rest ∙ fault_same kept h.1 w.controls.threads h.3.threads (quiet h.0 h.1 h.2).made ∙ (quiet h.0 h.1 h.2).no_fault;
     moves_nothing = λ item next goes. (goes_on_like w h item next goes).0;
   }
 
@@ -121,7 +149,7 @@ pub led_on : (kept : List Bool) (us vs : List World) (w : World) (i : ℕ) → I
 led_on kept us vs w i g h = record { leads = λ take. leads_on kept us vs w (Thread i take) g (h.leads take); follows = h.follows }
 
 quiet_on : (kept : List Bool) (us vs : List World) (w : World) → IsGrown us vs → IsQuiet kept us w → IsQuiet kept vs w
-quiet_on kept us vs w g q = record { no_fault = q.no_fault; nothing_pending = q.nothing_pending; leads = λ item. leads_on kept us vs w item g (q.leads item); follows = q.follows }
+quiet_on kept us vs w g q = record { made = q.made; no_fault = q.no_fault; nothing_pending = q.nothing_pending; leads = λ item. leads_on kept us vs w item g (q.leads item); follows = q.follows }
 
 -- one is added at the end
 get_kept : (ws more : List World) (k : ℕ) (w : World) → slice_get ws k ≡ Some w → slice_get (ws ++ more) k ≡ Some w
@@ -231,7 +259,7 @@ no_place (Some t) h = absurd (cc)
 past : (ts : List Standing) (k : ℕ) → slice_get ts k ≡ None → length ts ≤ k
 past ts k h = elim ((slice_get_cases ts k).1) [ inl within ↦ absurd (cc (h, within.2)) | inr after ↦ after.0 ]
 
-module _ (kept : List Bool) (w : World) (ws : List World) (count : ℕ) (calm : IsCalm w) (few : option_map (λ (t : Standing). t.place) (slice_get w.controls.threads count) ≡ None) (led : (i : ℕ) → i < count → IsThreadLed kept w ws i) where
+module _ (kept : List Bool) (w : World) (ws : List World) (count : ℕ) (program_made : IsProgram w.program) (calm : IsCalm w) (few : option_map (λ (t : Standing). t.place) (slice_get w.controls.threads count) ≡ None) (led : (i : ℕ) → i < count → IsThreadLed kept w ws i) where
   none_past : (i : ℕ) (take : Option ℤ) → count ≤ i → is_enabled w (Thread i take) ≡ false
   none_past i take le =
       let many : length w.controls.threads ≤ count = past w.controls.threads count (no_place _ few) in
@@ -259,7 +287,7 @@ module _ (kept : List Bool) (w : World) (ws : List World) (count : ℕ) (calm : 
       absurd (cc)
 
   pub quiet_all : IsQuiet kept ws w
-  quiet_all = record { no_fault = calm.no_fault; nothing_pending = calm.nothing_pending; leads = leads; follows = follows }
+  quiet_all = record { made = program_made; no_fault = calm.no_fault; nothing_pending = calm.nothing_pending; leads = leads; follows = follows }
 
 -- ---- all worlds
 

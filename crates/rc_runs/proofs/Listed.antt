@@ -15,7 +15,7 @@ use Rattle.rc_lang.specs.declared.lines.Stmt.{Stmt}
 use Rattle.rc_lang.specs.declared.lines.Stmt.TheVariants as stmt
 use Rattle.rc_lang.specs.declared.lines.Test.{Test}
 use Rattle.rc_lang.specs.declared.lines.Test.TheVariants as test
-use Rattle.rc_lang.specs.Program.{Program, Thread as ThreadOf, lines_in}
+use Rattle.rc_lang.specs.Program.{Program, Thread as ThreadOf, lines_in, lines_of}
 use Rattle.rc_lang.specs.Requests.{largest}
 use Rattle.rc_world.specs.declared.controls.Next.{Next}
 use Rattle.rc_world.specs.declared.controls.Next.TheVariants.{Ready, TakenLock, Ended}
@@ -30,6 +30,7 @@ use Rattle.rc_runs.specs.declared.choices.Choice.{Choice}
 use Rattle.rc_runs.specs.declared.choices.Choice.TheVariants.{Complete, Step, Take}
 use Rattle.rc_runs.specs.Choices.{choice_by, choice_up_to, choices_below, choices_in, completion_choice, is_listed, is_place, most_answer, pending_choice, stands_for, thread_choice}
 use Rattle.rc_runs.specs.Laws.{AreEnabled, HasPlainAnswer, IsCountIfAny, ListedIsEnabled}
+use Rattle.rc_world.proofs.LawSteps.{past_lines}
 
 -- ---- one of several
 
@@ -191,7 +192,8 @@ other_thread w k i take Ended differ = refl
 no_next_by : (program : Program) (i : ℕ) (h : Holders) (o : Option Standing) → slice_get program.threads i ≡ None → next_by h (next_at program i o) ≡ Ended
 no_next_by program i h None e = refl
 no_next_by program i h (Some t) e =
-    ap (λ x. next_by h (slice_get (lines_in x) t.place)) e ∙ ap (next_by h) (slice_get_past [] t.place (omega arith))
+    let none : length (lines_of program i) ≡ 0 = ap (λ x. length (lines_in x)) e in
+    ap (next_by h) (past_lines program i t (omega arith))
 
 no_completion_by : (c : Bool) (v most i : ℕ) (take : Option ℤ) → any_stands_for (cond c (Some (Complete v most)) None) (Thread i take) ≡ false
 no_completion_by true v most i take = refl

@@ -12,7 +12,7 @@ use Rattle.rc_lang.specs.declared.lines.Stmt.TheVariants.{Do, Put, Lock, EndLock
 use Rattle.rc_lang.specs.declared.lines.Test.{Test}
 use Rattle.rc_lang.specs.declared.lines.Test.TheVariants.{Compare, ReadyZero, SpaceAtLeast, Take, Any}
 use Rattle.rc_lang.specs.declared.request.Request.{Request}
-use Rattle.rc_lang.specs.Program.{Program, items_at, line_at, lists_of}
+use Rattle.rc_lang.specs.Program.{Program}
 use Rattle.rc_split.specs.Pools.{includes, pool_of, taken_from}
 use Rattle.rc_world.specs.declared.controls.Answer.{Answer}
 use Rattle.rc_world.specs.declared.controls.Answer.TheVariants.{Plain, Number, Byte, Front}
@@ -22,10 +22,11 @@ use Rattle.rc_world.specs.declared.world.Slot.{Slot}
 use Rattle.rc_world.specs.declared.world.Slot.TheVariants.{Closed, Vacant, Prepared}
 use Rattle.rc_world.specs.Changes.{nowhere}
 use Rattle.rc_world.specs.Controls as controls
-use Rattle.rc_world.specs.Controls.{Controls, Move, Standing, acts, acts_on, as_event, branches, controls_step, does, goes_on, is_choice, made, moved, next_at, next_line, peeks, plainly, rest_at, sets_variable, tries_to_take}
+use Rattle.rc_world.specs.Controls.{Controls, Move, Standing, acts, acts_on, as_event, branches, controls_step, does, goes_on, is_choice, made, moved, next_at, next_line, peeks, plainly, rest_at, sets_variable, tries_to_take, list_at, list_here, variables_in}
 use Rattle.rc_world.specs.Machine.{World, all_begin, fits_buffer, gets_front, hands_over, in_rings, is_take, op_in_rings, opens_entry, prepares, stmt_answer, submits_by, thread_step, thread_step_at, with_controls}
 use Rattle.rc_runs.specs.Closing.{line_follows, op_follows, still, still_controls, still_standing, still_with, stmt_follows}
 use Rattle.rc_runs.specs.Stuck.{line_moves, op_moves, stmt_moves}
+use Rattle.rc_lang.specs.Rows.{list_read_at}
 
 -- ---- in the controls
 
@@ -96,14 +97,14 @@ module _ (c : Controls) (t : Standing) where
   does_mild kept j CqeSeen p (Front cqe) = left _ refl refl
 
   module _ (program : Program) (i : ℕ) where
-    takes_mild : (pool : Option ℕ) (k : ℕ) → includes program (pool_of c.pools pool) (items_at (lists_of program i) k) ≡ false → IsMild (tries_to_take program c i t pool (items_at (lists_of program i) k))
+    takes_mild : (pool : Option ℕ) (k : ℕ) → includes program (pool_of c.pools pool) (list_at program i t k) ≡ false → IsMild (tries_to_take program c i t pool (list_at program i t k))
     takes_mild pool k none =
         subst
-        (λ b. IsMild (if b then record (branches program c i t true) { pools = taken_from program pool (items_at (lists_of program i) k) c.pools } else branches program c i t false))
+        (λ b. IsMild (if b then record (branches program c i t true) { pools = taken_from program pool (list_at program i t k) c.pools } else branches program c i t false))
         (sym none)
         (left (branches program c i t false) refl refl)
 
-    decides_mild : (test : Test) (a : Answer) → ((pool : Option ℕ) (k : ℕ) → test ≡ Take pool k → includes program (pool_of c.pools pool) (items_at (lists_of program i) k) ≡ false) → IfMild (controls.decides program c i t test a)
+    decides_mild : (test : Test) (a : Answer) → ((pool : Option ℕ) (k : ℕ) → test ≡ Take pool k → includes program (pool_of c.pools pool) (list_at program i t k) ≡ false) → IfMild (controls.decides program c i t test a)
     decides_mild (Compare x comparison n) a none = plain _ (left _ refl refl) a
     decides_mild ReadyZero Plain none = tt
     decides_mild ReadyZero (Number n) none = left _ refl refl
@@ -134,26 +135,28 @@ module _ (c : Controls) (t : Standing) where
         ap (λ (ts : List Standing). record (still_controls (moved program c i m)) { threads = ts }) threads
         ∙ ap (λ ps. record (still_controls c) { pools = ps }) mild.pools
 
-acts_mild : (kept : List Bool) (w : World) (i : ℕ) (t : Standing) (s : Stmt) → stmt_moves w i s ≡ false → stmt_follows kept i s ≡ true → (a : Answer) → IfMild w.controls t (acts w.program w.controls i t s a)
-acts_mild kept w i t (Do op) q p a = does_mild w.controls t kept i op p a
-acts_mild kept w i t (Put pool k) q p a = absurd (cc)
-acts_mild kept w i t (Lock wanted) q p a = if_mild w.controls t (controls.are_free wanted w.controls.holders) _ (plain w.controls t _ (left w.controls t _ refl refl) a)
-acts_mild kept w i t (EndLock o released) q p a = plain w.controls t _ (left w.controls t _ refl refl) a
-acts_mild kept w i t (If test) q p a = decides_mild w.controls t w.program i test a (taken test q)
+acts_mild : (kept : List Bool) (w : World) (i : ℕ) (t : Standing) → slice_get w.controls.threads i ≡ Some t → (s : Stmt) → stmt_moves w i s ≡ false → stmt_follows kept i s ≡ true → (a : Answer) → IfMild w.controls t (acts w.program w.controls i t s a)
+acts_mild kept w i t here (Do op) q p a = does_mild w.controls t kept i op p a
+acts_mild kept w i t here (Put pool k) q p a = absurd (cc)
+acts_mild kept w i t here (Lock wanted) q p a = if_mild w.controls t (controls.are_free wanted w.controls.holders) _ (plain w.controls t _ (left w.controls t _ refl refl) a)
+acts_mild kept w i t here (EndLock o released) q p a = plain w.controls t _ (left w.controls t _ refl refl) a
+acts_mild kept w i t here (If test) q p a = decides_mild w.controls t w.program i test a (taken test q)
   where
-    taken : (test : Test) → stmt_moves w i (If test) ≡ false → (pool : Option ℕ) (k : ℕ) → test ≡ Take pool k → includes w.program (pool_of w.controls.pools pool) (items_at (lists_of w.program i) k) ≡ false
-    taken test q pool k is = subst (λ (test : Test). stmt_moves w i (If test) ≡ false) is q
-acts_mild kept w i t (Else o) q p a = tt
-acts_mild kept w i t (EndIf o) q p a = tt
-acts_mild kept w i t (Peek x) q p a = peeks_mild w.controls t w.program i x a
-acts_mild kept w i t (Case o u) q p a = tt
-acts_mild kept w i t (Other o) q p a = tt
-acts_mild kept w i t (Nothing o) q p a = tt
-acts_mild kept w i t (EndArm o) q p a = tt
-acts_mild kept w i t (EndPeek o) q p a = tt
-acts_mild kept w i t (Loop k) q p a = plain w.controls t _ (left w.controls t _ refl refl) a
-acts_mild kept w i t (EndLoop o k) q p a = plain w.controls t _ (left w.controls t _ refl refl) a
-acts_mild kept w i t (Break o releases leaves) q p a = plain w.controls t _ (left w.controls t _ refl refl) a
+    taken : (test : Test) → stmt_moves w i (If test) ≡ false → (pool : Option ℕ) (k : ℕ) → test ≡ Take pool k → includes w.program (pool_of w.controls.pools pool) (list_at w.program i t k) ≡ false
+    taken test q pool k is =
+        let read : list_here w.program w.controls i k ≡ list_at w.program i t k = ap (λ (o : Option Standing). list_read_at w.program i (variables_in o) k) here in
+        ap (includes w.program (pool_of w.controls.pools pool)) (sym read) ∙ subst (λ (test : Test). stmt_moves w i (If test) ≡ false) is q
+acts_mild kept w i t here (Else o) q p a = tt
+acts_mild kept w i t here (EndIf o) q p a = tt
+acts_mild kept w i t here (Peek x) q p a = peeks_mild w.controls t w.program i x a
+acts_mild kept w i t here (Case o u) q p a = tt
+acts_mild kept w i t here (Other o) q p a = tt
+acts_mild kept w i t here (Nothing o) q p a = tt
+acts_mild kept w i t here (EndArm o) q p a = tt
+acts_mild kept w i t here (EndPeek o) q p a = tt
+acts_mild kept w i t here (Loop k) q p a = plain w.controls t _ (left w.controls t _ refl refl) a
+acts_mild kept w i t here (EndLoop o k) q p a = plain w.controls t _ (left w.controls t _ refl refl) a
+acts_mild kept w i t here (Break o releases leaves) q p a = plain w.controls t _ (left w.controls t _ refl refl) a
 
 -- ---- in the rings
 
@@ -249,7 +252,7 @@ module _ (w : World) (i : ℕ) (t : Standing) (l : Line) (here : slice_get w.con
       let same : record v { controls = after } ≡ next = ap (λ (p : Event × World). p.1) (same_Some _ _ is) in
       ap still (sym same) ∙ h (still_controls after) ∙ ap (λ (c : Controls). still_with c w) (still_moved w.controls t w.program i m mild here)
 
-  pub step_is : (r : ℤ) → line_at w.program i t.place ≡ Some l →
+  pub step_is : (r : ℤ) → next_at w.program i (Some t) ≡ Some l →
       thread_step w i r ≡ with_controls (in_rings w t r l.stmt) (as_event w.program i l (made w.program w.controls i (acts w.program w.controls i t l.stmt (stmt_answer w r l.stmt))))
   step_is r line =
       let a : Answer = stmt_answer w r l.stmt in
@@ -259,16 +262,16 @@ module _ (w : World) (i : ℕ) (t : Standing) (l : Line) (here : slice_get w.con
       ∙ ap (λ o. with_controls (in_rings w t r l.stmt) (acts_on w.program w.controls i a o (next_line w.program w.controls i))) here
       ∙ ap (λ o. with_controls (in_rings w t r l.stmt) (acts_on w.program w.controls i a (Some t) o)) next
 
-  step_still : (kept : List Bool) (r : ℤ) (e : Event) (next : World) → line_at w.program i t.place ≡ Some l → stmt_moves w i l.stmt ≡ false → stmt_follows kept i l.stmt ≡ true → thread_step w i r ≡ Some (e, next) → still next ≡ still w
+  step_still : (kept : List Bool) (r : ℤ) (e : Event) (next : World) → next_at w.program i (Some t) ≡ Some l → stmt_moves w i l.stmt ≡ false → stmt_follows kept i l.stmt ≡ true → thread_step w i r ≡ Some (e, next) → still next ≡ still w
   step_still kept r e next line q p is =
-      ends _ _ e next (all_still w kept i t r l.stmt q p) (acts_mild kept w i t l.stmt q p (stmt_answer w r l.stmt)) (sym (step_is r line) ∙ is)
+      ends _ _ e next (all_still w kept i t r l.stmt q p) (acts_mild kept w i t here l.stmt q p (stmt_answer w r l.stmt)) (sym (step_is r line) ∙ is)
 
 -- The thread's step that moves nothing and can be compared leaves the same of the world.
 pub still_after : (kept : List Bool) (w : World) (i : ℕ) (r : ℤ) (e : Event) (next : World) → line_moves w i (next_line w.program w.controls i) ≡ false → line_follows kept i (next_line w.program w.controls i) ≡ true →
     thread_step w i r ≡ Some (e, next) → still next ≡ still w
 still_after kept w i r e next q p is = at_thread (slice_get w.controls.threads i) refl
   where
-    at_line : (t : Standing) → slice_get w.controls.threads i ≡ Some t → (o : Option Line) → line_at w.program i t.place ≡ o → still next ≡ still w
+    at_line : (t : Standing) → slice_get w.controls.threads i ≡ Some t → (o : Option Line) → next_at w.program i (Some t) ≡ o → still next ≡ still w
     at_line t here None line =
         let none : next_line w.program w.controls i ≡ None = ap (next_at w.program i) here ∙ line in
         let no_step : thread_step w i r ≡ None = ap (λ o. thread_step_at w i r o (next_line w.program w.controls i)) here ∙ ap (thread_step_at w i r (Some t)) none in
@@ -281,4 +284,4 @@ still_after kept w i r e next q p is = at_thread (slice_get w.controls.threads i
     at_thread None here =
         let no_step : thread_step w i r ≡ None = ap (λ o. thread_step_at w i r o (next_line w.program w.controls i)) here in
         absurd (cc)
-    at_thread (Some t) here = at_line t here (line_at w.program i t.place) refl
+    at_thread (Some t) here = at_line t here (next_at w.program i (Some t)) refl

@@ -21,6 +21,7 @@ use Rattle.rc_world.specs.Machine.{World}
 use Rattle.rc_world.specs.Readers.{variable_in}
 use Rattle.rc_world.specs.Trace.{has_ended}
 use Rattle.rc_runs.specs.Stuck.{GoesBy, IsOnward, IsStill, counts, line_moves, moves}
+use Rattle.rc_lang.specs.Program.{IsProgram}
 
 -- ---- on which variables something depends
 
@@ -160,6 +161,7 @@ IsThreadLedAt kept old number new i = (w : World) → slice_get old number ≡ S
 
 -- So it is for each item.
 pub record IsQuiet (kept : List Bool) (ws : List World) (w : World) : Type 0 where
+  pub made : IsProgram w.program
   pub no_fault : fault_of w ≡ None
   pub nothing_pending : length w.pending ≡ 0
   pub leads : (item : Item) → Leads kept w ws item

@@ -6,12 +6,11 @@ use Rattle.rc_lang.specs.declared.lines.Op.TheVariants.{SetData64, Submit, Submi
 use Rattle.rc_lang.specs.declared.lines.Stmt.{Stmt}
 use Rattle.rc_lang.specs.declared.lines.Stmt.TheVariants.{Do, Put, If}
 use Rattle.rc_lang.specs.declared.lines.Test.TheVariants.{Take, Any}
-use Rattle.rc_lang.specs.Program.{items_at, lists_of}
 use Rattle.rc_split.specs.Pools.{includes, pool_of}
 use Rattle.rc_world.specs.declared.event.Event.{Event}
 use Rattle.rc_world.specs.declared.event.Item.{Item}
 use Rattle.rc_world.specs.declared.event.Item.TheVariants.{Thread, Kernel}
-use Rattle.rc_world.specs.Controls.{next_line}
+use Rattle.rc_world.specs.Controls.{next_line, list_here}
 use Rattle.rc_world.specs.Faults.{fault_of}
 use Rattle.rc_world.specs.Items.{is_enabled, item_step, next_of}
 use Rattle.rc_world.specs.Machine.{World}
@@ -44,7 +43,7 @@ op_moves w _ = false
 abbrev pub stmt_moves : World → ℕ → Stmt → Bool
 stmt_moves w i (Do op) = op_moves w op
 stmt_moves w i (Put pool k) = true
-stmt_moves w i (If (Take pool k)) = includes w.program (pool_of w.controls.pools pool) (items_at (lists_of w.program i) k)
+stmt_moves w i (If (Take pool k)) = includes w.program (pool_of w.controls.pools pool) (list_here w.program w.controls i k)
 stmt_moves w i _ = false
 
 abbrev pub line_moves : World → ℕ → Option Line → Bool

@@ -4,8 +4,10 @@ mod ends;
 mod over;
 mod side_asks;
 
+use crate::line_at::Begins;
 use crate::walked::Refused;
 use ends::put_ends;
+use over::Lines;
 use rc_lang::lines::{Stmt, Test};
 use rc_lang::program::Program;
 use rc_rules::asks::asks_of;
@@ -34,18 +36,22 @@ pub struct Missing {
     pub on_other: bool,
 }
 
-/// What the header of a thread asks for that is refused for the cause, and what the threads up to it hold.
+/// What the line of a pool or the header of a thread asks for that is refused for the cause, and what the lines up to it give.
 pub fn header_need(
     alloc: Global,
     program: &Program,
-    thread: u32,
+    begins: Begins,
     cause: Cause,
 ) -> Result<Need, AllocError> {
+    let lines = match begins {
+        Begins::Pool(line) => Lines::up_to_stock(program, line),
+        Begins::Thread(thread) => Lines::up_to_thread(program, thread),
+    };
     let mut asks = Vec::new(alloc);
     match cause {
-        Cause::OverShares => over::put_shares(&mut asks, program, thread)?,
-        Cause::TokenTwice => over::put_token(&mut asks, program, thread)?,
-        Cause::OverCredits => over::put_credits(&mut asks, program, thread)?,
+        Cause::OverShares => over::put_shares(&mut asks, lines)?,
+        Cause::TokenTwice => over::put_token(&mut asks, lines)?,
+        Cause::OverCredits => over::put_credits(&mut asks, lines)?,
         _ => {}
     }
     Ok(Need {

@@ -102,11 +102,11 @@ fn sentence_of_rule(cause: Cause) -> &'static str {
         Cause::JoinMismatch =>
             "One branch leaves an entry open, or a completion got, and the other doesn't; or they leave the entry at different stages.",
         Cause::OverShares =>
-            "Shares are handed out once, by the headers, and these hand out more than the buffer has.",
+            "Shares are handed out once, at the start, and here more are handed out than the buffer has.",
         Cause::TokenTwice =>
             "Two requests with one user data could be in flight, and nobody could tell their completions apart.",
         Cause::OverCredits =>
-            "Each credit is a place in the completion ring, and the headers hold more than it has.",
+            "Each credit is a place in the completion ring, and more are handed out at the start than it has.",
         Cause::NotHeld =>
             "Any thread may take what is in the pool, so what a request, another thread or nobody has can't be put there.",
         Cause::NotSeen =>
@@ -186,7 +186,7 @@ fn fix_of_rule(cause: Cause) -> &'static str {
         Cause::TokenTwice =>
             "Declare a token for each thread, or let the thread that reaps its request have it next.",
         Cause::OverCredits =>
-            "Declare a larger completion ring by `cq`, or hold fewer credits in the headers.",
+            "Declare a larger completion ring by `cq`, or let the threads and pools begin with fewer credits.",
         Cause::NotHeld => "Put it where it came back: after the `cqe_seen` in its own `case`.",
         Cause::NotSeen =>
             "Write `cqe_seen` above this line, after the last use of what the completion says.",

@@ -147,6 +147,9 @@ fn put_never(text: &mut Vec<u8>, refused: Refused, part: Part) -> Result<(), All
     if !matches!(part, Part::Credits(_)) && pools::put_found(text, refused, part)? {
         return Ok(());
     }
+    if !matches!(part, Part::Credits(_)) && pools::put_begun(text, refused, part)? {
+        return Ok(());
+    }
     headers::put_move(text, refused, part)
 }
 
@@ -231,14 +234,14 @@ fn put_reaped(
 /// The token of a request with which less comes back than the prep at a place took, since another kind of the token owns
 /// less.
 fn lessening(refused: Refused, user_data: u64, place: usize) -> Option<Token> {
-    let program = refused.program();
+    let view = refused.view();
     let (buffer, taken) = match refused.stmt(place) {
-        Stmt::Do(Op::PrepRead(_, buffer, _, _)) => (buffer, program.shares_at(buffer)),
+        Stmt::Do(Op::PrepRead(_, buffer, _, _)) => (buffer, view.shares_at(buffer)),
         Stmt::Do(Op::PrepWrite(_, buffer, _, _, count)) => (buffer, count),
         _ => return None,
     };
-    let token = token_of(program, user_data)?;
-    (shares_of(program, token, buffer) < taken).then_some(token)
+    let token = token_of(view, user_data)?;
+    (shares_of(view, token, buffer) < taken).then_some(token)
 }
 
 /// Adds that each kind of a token is to have a token of its own.

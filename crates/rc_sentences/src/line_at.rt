@@ -11,6 +11,22 @@ pub struct LineAt {
     pub place: Option<usize>,
 }
 
+/// A line that says what somebody begins with: that of a pool, by its place among such lines, or the header of a thread, by
+/// its number.
+#[derive(Clone, Copy)]
+pub enum Begins {
+    Pool(usize),
+    Thread(u32),
+}
+
+/// The place of the line with this number among those that say what pools have at the start, if it is one.
+pub fn stock_at(program: &Program, number: u32) -> Option<usize> {
+    program
+        .stock()
+        .iter()
+        .position(|stock| stock.line == number)
+}
+
 /// Where the line with this number is in a thread: at a place (Some), as the header (None), or not in it.
 fn place_in(thread: &Thread, number: u32) -> Option<Option<usize>> {
     if thread.line == number {

@@ -3,10 +3,11 @@
 pub(crate) mod ways;
 
 use crate::asks::Missing;
-use crate::parts::put_part;
+use crate::parts::{put_part, put_pool};
 use crate::puts::{count_in, with_count};
 use crate::walked::Refused;
 use rc_lang::lines::{Op, Stmt};
+use rc_lang::program::Stock;
 use rc_read::source::{Lines, put_line_words};
 use rc_split::part::Part;
 use rc_text::names::pool_name;
@@ -122,6 +123,15 @@ fn flag_text(by_flag: bool, zero: bool) -> &'static [u8] {
     }
 }
 
+/// Adds that a pool begins with a part.
+fn put_stock(text: &mut Vec<u8>, page: Page, stock: &Stock, part: Part) -> Result<(), AllocError> {
+    let program = page.refused.program();
+    put_piece(text, b"; ")?;
+    put_pool(text, program, stock.pool)?;
+    put_counted(text, b", line ", u64::from(stock.line), b", begins with ")?;
+    put_part(text, program, part)
+}
+
 /// Adds the number and the words of the line at a place.
 fn put_line(text: &mut Vec<u8>, page: Page, place: usize) -> Result<(), AllocError> {
     let number = page.refused.number(place);
@@ -202,15 +212,21 @@ pub(crate) fn request_of(refused: Refused, place: usize) -> Option<u64> {
     None
 }
 
-/// Adds which other thread begins with some of a part, if one does and it isn't credits.
+/// Adds which pool, or which thread of another line, begins with some of a part, if one does and it isn't credits.
 fn put_header(text: &mut Vec<u8>, page: Page, part: Part) -> Result<(), AllocError> {
     if matches!(part, Part::Credits(_)) {
         return Ok(());
     }
-    for (number, thread) in page.refused.program().threads().iter().enumerate() {
+    for stock in page.refused.program().stock() {
+        let count = count_in(&stock.items, part);
+        if count > 0 {
+            return put_stock(text, page, stock, with_count(part, count));
+        }
+    }
+    for thread in page.refused.program().threads() {
         let count = count_in(&thread.items, part);
-        if number != page.refused.walked.number && count > 0 {
-            put_pieces(text, &[b"; thread ", &thread.name, b", line "])?;
+        if thread.line != page.refused.walked.thread.line && count > 0 {
+            put_pieces(text, &[b"; thread ", thread.declared_name(), b", line "])?;
             put_number(text, u64::from(thread.line))?;
             put_piece(text, b", begins with ")?;
             return put_part(text, page.refused.program(), with_count(part, count));

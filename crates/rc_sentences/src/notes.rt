@@ -1,7 +1,7 @@
 //! Notes on a program: which of its `if take` never find what they ask for.
 
 use crate::parts::put_part;
-use crate::puts::{Puts, count_of, with_count};
+use crate::puts::{Puts, begun_in, count_of, with_count};
 use rc_lang::lines::{Stmt, Test};
 use rc_lang::program::{Program, Thread};
 use rc_read::source::{Lines, put_line_words};
@@ -13,7 +13,7 @@ use std::alloc::{AllocError, Global};
 /// How many bytes most notes have at most.
 const MOST_BYTES: usize = 128;
 
-/// A part that is taken from a pool, and how many of it all lines of the program put there, which are fewer.
+/// A part that is taken from a pool, and how many of it come there at most, which are fewer.
 #[derive(Clone, Copy)]
 struct Shortage {
     part: Part,
@@ -28,19 +28,32 @@ pub struct Note {
     pub text: Vec<u8>,
 }
 
-/// A note on each `if take` that asks for more than the lines of the program put into its pool, in the order of their
-/// lines: its first branch is never taken, since each pool starts empty.
+/// A note on each `if take` that asks for more than its pool has at the start and the lines of the program put there, in the
+/// order of their lines: its first branch is never taken.
 pub fn notes_on(alloc: Global, lines: &Lines, program: &Program) -> Result<Vec<Note>, AllocError> {
     let mut notes = Vec::new(alloc);
     let puts = Puts::of(alloc, program)?;
     for thread in program.threads() {
-        for line in &thread.lines {
-            if let Some(shortage) = shortage_at(&puts, thread, line.stmt) {
-                push_note(&mut notes, lines, &puts, line.number, shortage)?;
-            }
+        if !thread.is_further() {
+            push_notes(&mut notes, lines, &puts, thread)?;
         }
     }
     Ok(notes)
+}
+
+/// Adds the notes on a thread.
+fn push_notes(
+    notes: &mut Vec<Note>,
+    lines: &Lines,
+    puts: &Puts<'_>,
+    thread: &Thread,
+) -> Result<(), AllocError> {
+    for line in &thread.lines {
+        if let Some(shortage) = shortage_at(puts, thread, line.stmt) {
+            push_note(notes, lines, puts, line.number, shortage)?;
+        }
+    }
+    Ok(())
 }
 
 /// The first part that a statement takes although no lines put enough of it there, if there is one.
@@ -98,7 +111,15 @@ fn put_shortage(text: &mut Vec<u8>, puts: &Puts<'_>, shortage: Shortage) -> Resu
     } else {
         put_piece(text, b"no more than ")?;
         put_part(text, puts.program, with_count(part, put))?;
-        put_piece(text, b" is put")?;
+        let is_begun = begun_in(puts.program, pool, part) > 0;
+        put_piece(
+            text,
+            if is_begun {
+                b" is there at the start or put"
+            } else {
+                b" is put"
+            },
+        )?;
     }
     match pool {
         Some(pool) => put_pool(text, puts, part, pool),

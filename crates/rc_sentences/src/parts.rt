@@ -3,7 +3,7 @@
 use rc_lang::program::{Items, Program, Share};
 use rc_rules::side::Side;
 use rc_split::part::Part;
-use rc_text::names::buffer_name;
+use rc_text::names::{buffer_name, pool_name};
 use rc_text::text::{put_number, put_piece, put_pieces};
 use std::alloc::AllocError;
 
@@ -26,6 +26,18 @@ pub fn said(program: &Program, thread: usize, list: usize, zero: bool) -> Claim<
     Claim {
         items: program.lists_of(thread).get(list),
         zero,
+    }
+}
+
+/// Adds a pool, by its name if it has one.
+pub fn put_pool(
+    text: &mut Vec<u8>,
+    program: &Program,
+    pool: Option<usize>,
+) -> Result<(), AllocError> {
+    match pool {
+        Some(pool) => put_pieces(text, &[b"pool ", pool_name(program, pool)]),
+        None => put_piece(text, b"the pool"),
     }
 }
 

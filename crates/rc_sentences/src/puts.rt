@@ -1,4 +1,4 @@
-//! What the lines of a program put into its pools.
+//! What comes into the pools of a program: what they have at the start, and what its lines put there.
 
 use crate::parts::shares_of;
 use rc_lang::lines::Stmt;
@@ -6,8 +6,8 @@ use rc_lang::program::{Items, Program, Thread};
 use rc_split::part::Part;
 use std::alloc::{AllocError, Global};
 
-/// How many of each part the lines of a program put into each pool at most: a row for the pool without a name, and one for
-/// each with a name.
+/// How many of each part come into each pool at most, at the start and by the lines of a program: a row for the pool without
+/// a name, and one for each with a name.
 #[derive(Drop)]
 pub struct Puts<'a> {
     pub program: &'a Program,
@@ -24,18 +24,21 @@ fn width_of(program: &Program) -> usize {
 }
 
 impl<'a> Puts<'a> {
-    /// What the lines of a program put.
+    /// What comes into the pools of a program.
     pub fn of(alloc: Global, program: &'a Program) -> Result<Puts<'a>, AllocError> {
         let rows = program.pools().len().saturating_add(1);
         let counts = vec![in alloc; 0; rows.saturating_mul(width_of(program))]?;
         let mut puts = Puts { program, counts };
+        for stock in program.stock() {
+            puts.add_items(stock.pool, &stock.items, 1);
+        }
         for thread in program.threads() {
             puts.add_thread(thread);
         }
         Ok(puts)
     }
 
-    /// How many of a part are put into a pool at most.
+    /// How many of a part come into a pool at most.
     pub fn count(&self, pool: Option<usize>, part: Part) -> u32 {
         self.counts
             .get(self.place(pool, part))
@@ -111,6 +114,16 @@ pub fn count_of(part: Part) -> u32 {
         Part::Shares(_, count) | Part::Credits(count) => count,
         Part::Token(_) => 1,
     }
+}
+
+/// How many of a part a pool has at the start.
+pub fn begun_in(program: &Program, pool: Option<usize>, part: Part) -> u32 {
+    for stock in program.stock() {
+        if stock.pool == pool {
+            return count_in(&stock.items, part);
+        }
+    }
+    0
 }
 
 /// How many of a part items have.

@@ -3,6 +3,7 @@
 use crate::asks::{Need, header_need, is_of_both, line_need};
 use crate::causes::{advice_on_rule, why_of_data, why_of_pool};
 use crate::fixes::put_fix;
+use crate::line_at::Begins;
 use crate::lost::ways::loss_of;
 use crate::lost::{last_held, put_lost};
 use crate::walked::Refused;
@@ -28,14 +29,14 @@ pub struct Sentences {
     pub fix: Vec<u8>,
 }
 
-/// What is said of a header that is refused for the cause, by the number of its thread.
+/// What is said of the line of a pool, or of a header, that is refused for the cause.
 pub fn sentences_on_header(
     alloc: Global,
     program: &Program,
-    thread: u32,
+    begins: Begins,
     cause: Cause,
 ) -> Result<Sentences, AllocError> {
-    let need = header_need(alloc, program, thread, cause)?;
+    let need = header_need(alloc, program, begins, cause)?;
     let mut sentences = sentences_of(alloc, need, cause);
     put_rule(&mut sentences.fix, cause)?;
     Ok(sentences)

@@ -4,6 +4,7 @@ ghost use Rattle.std.specs.Prelude.{◌<◌, length};
 
 use rc_lang::lines::{Line, Locks, Stmt};
 use rc_lang::program::{Program, Thread};
+use rc_lang::view::View;
 use rc_rules::state::State;
 use rc_verify::labels::Labels;
 use std::alloc::{AllocError, Global};
@@ -81,6 +82,11 @@ impl<'a> Refused<'a> {
     /// The program.
     pub fn program(self) -> &'a Program {
         self.walked.program
+    }
+
+    /// The program, as the line's thread names its parts.
+    pub fn view(self) -> View<'a> {
+        self.walked.program.view(self.walked.number)
     }
 
     /// What is known before the refused line, if it is one of the thread.

@@ -3,7 +3,8 @@ use Rattle.std.proofs.Common.{◌≡◌, ℕ, zero, suc, ◌+◌, ◌≤◌, Boo
 use Rattle.std.proofs.lemmas.Bool.{eqb-false, eqb-true, le-leb, ne_eqb}
 use Rattle.std.proofs.lemmas.List.Sums.{count_by-le-length, sum_by-cons}
 use Rattle.rc_lang.specs.declared.program.Token.{Token}
-use Rattle.rc_lang.specs.Program.{IsProgram, Program}
+use Rattle.rc_lang.specs.Program.{Program}
+use Rattle.rc_lang.specs.Views.{IsView}
 use Rattle.rc_split.specs.Bags.{Part, TokenOf, IsSameBag, IsWithin, lacking}
 
 -- ---- one token
@@ -44,7 +45,7 @@ lacking_same tokens a b h =
     let more : lacking tokens a ≤ lacking tokens b = lacking_less tokens b a (λ p. omega (arith, h p)) in
     omega (arith, less, more)
 
-pub lacking_few : (P : Program) (b : Part → ℕ) → IsProgram P → lacking P.tokens b ≤ 256
+pub lacking_few : (P : Program) (b : Part → ℕ) → IsView P → lacking P.tokens b ≤ 256
 lacking_few P b made =
     let most : lacking P.tokens b ≤ length P.tokens = count_by-le-length (λ (t : Token). nat_eq (b (TokenOf t.user_data)) 0) P.tokens in
     let few : length P.tokens ≤ 256 = made.few_tokens in

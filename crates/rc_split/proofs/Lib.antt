@@ -7,5 +7,6 @@ mod Held
 pub mod PoolBags
 pub mod Named
 pub mod AllPools
+mod Starting
 pub mod Lacking
 pub mod Given

@@ -1,14 +1,15 @@
 -- What items of a program say of a part: nothing where they don't name it, and else what they say once.
-use Rattle.std.proofs.Common.{◌≡◌, ℕ, zero, suc, ◌+◌, ◌<◌, ◌≤◌, Bool, true, false, List, [], ◌∷◌, length, map, get_or, refl, ap, ◌∙◌, sym, subst, ◌⊎◌, inl, inr, ◌&&◌, ◌||◌, nat_eq, nat_le, ltb, ◌^◌, arith}
-use Rattle.std.specs.Prelude.{nat_lt, slice_index}
+use Rattle.std.proofs.Common.{◌≡◌, ℕ, zero, suc, ◌+◌, ◌<◌, ◌≤◌, Bool, true, false, not, List, [], ◌∷◌, length, map, get_or, refl, ap, ◌∙◌, sym, subst, ◌⊎◌, inl, inr, ◌&&◌, nat_eq, nat_le, ltb, ◌^◌, arith}
+use Rattle.std.specs.Prelude.{slice_index}
 use Rattle.std.specs.List.{AllByRecursion, IsDistinct, list_all, list_any}
-use Rattle.std.proofs.lemmas.Bool.{eqb-false, leb-true, ltb-true, ltb-false, and_parts, or_parts}
+use Rattle.std.proofs.lemmas.Bool.{eqb-false, leb-true, ltb-true, ltb-false, and_from, and_parts, not-false, or_parts}
 use Rattle.std.proofs.lemmas.List.{get_or_past}
 use Rattle.std.proofs.lemmas.Map.Keys.{IsDistinct-head, IsDistinct-tail}
 use Rattle.rc_lang.specs.declared.program.Share.{Share}
+use Rattle.rc_lang.specs.Views.{IsView}
 use Rattle.rc_lang.specs.Program.{Buffer, Program, Items, IsItems, IsProgram, no_buffer, shares_at}
 use Rattle.rc_split.specs.Bags.{Part, ShareOf, TokenOf, Credit, bag_of}
-use Rattle.rc_split.specs.Pools.{Pool, pooled, includes, overfills}
+use Rattle.rc_split.specs.Pools.{Pool, all_of, each_part, fits, includes, overfills, pooled}
 use Rattle.rc_split.proofs.PoolBags.{one_share, one_token, shares_in, tokens_in}
 
 -- ---- tests of all of a list, and of any
@@ -100,67 +101,108 @@ share_at (x ∷ xs) (suc i) d e lt =
     apart s (y ∷ ys) zero q a f l = eqb-false x.buffer y.buffer a.0 (f ∙ sym (ap (λ (t : Share). t.buffer) q))
     apart s (y ∷ ys) (suc k) q a f l = apart s ys k q a.1 f (omega arith)
 
+-- Items of a program name at most 2,048 of a part.
+pub few_named : (P : Program) (items : Items) → IsItems P items → (p : Part) → bag_of items p ≤ 2048
+few_named P items of (ShareOf b) = elim (share_named items.shares b of.distinct_buffers) [
+  | inl n ↦ omega (arith, n)
+  | inr s ↦ let l : (1 ≤ (get_or items.shares s.place no_share).count) × ((get_or items.shares s.place no_share).count ≤ 16) = of.counts s.place no_share s.within in omega (arith, s.count, l.1)
+]
+few_named P items of (TokenOf u) = elim (token_named items.tokens u of.distinct_tokens) [
+  | inl n ↦ omega (arith, n)
+  | inr s ↦ omega (arith, s.once)
+]
+few_named P items of Credit = of.credits
+
 -- ---- the pool
 
-pub few_shares : (P : Program) (b : ℕ) → IsProgram P → shares_at P.buffers b ≤ 16
+pub few_shares : (P : Program) (b : ℕ) → IsView P → shares_at P.buffers b ≤ 16
 few_shares P b h = go (ltb b (length P.buffers)) refl
   where
     go : (x : Bool) → ltb b (length P.buffers) ≡ x → shares_at P.buffers b ≤ 16
     go true e = (h.buffers b no_buffer (ltb-true _ _ e)).shares.1
     go false e = let f : get_or P.buffers b no_buffer ≡ no_buffer = get_or_past P.buffers b no_buffer (ltb-false _ _ e) in subst (λ (y : Buffer). y.shares ≤ 16) (sym f) (omega arith)
 
-module _ (P : Program) (pool : Pool) (items : Items) (of : IsItems P items) where
+-- A test of each part that items name says it of a part, or they name none of it.
+shares_tested : (test : Part → Bool) (ss : List Share) (b : ℕ) → list_all (λ (s : Share). test (ShareOf s.buffer)) ss ≡ true → (shares_in ss b ≡ 0) ⊎ (test (ShareOf b) ≡ true)
+shares_tested test [] b e = inl refl
+shares_tested test (s ∷ ss) b e =
+    let h = and_parts (test (ShareOf s.buffer)) (list_all (λ (s : Share). test (ShareOf s.buffer)) ss) e in
+    elim (one_share s ss b) [
+      | inl o ↦ inr (subst (λ c. test (ShareOf c) ≡ true) o.0 h.0)
+      | inr o ↦ elim (shares_tested test ss b h.1) [ inl n ↦ inl (o.1 ∙ n) | inr t ↦ inr t ]
+    ]
+
+tokens_tested : (test : Part → Bool) (ts : List ℕ) (u : ℕ) → list_all (λ u. test (TokenOf u)) ts ≡ true → (tokens_in ts u ≡ 0) ⊎ (test (TokenOf u) ≡ true)
+tokens_tested test [] u e = inl refl
+tokens_tested test (t ∷ ts) u e =
+    let h = and_parts (test (TokenOf t)) (list_all (λ u. test (TokenOf u)) ts) e in
+    elim (one_token t ts u) [
+      | inl o ↦ inr (subst (λ v. test (TokenOf v) ≡ true) o.0 h.0)
+      | inr o ↦ elim (tokens_tested test ts u h.1) [ inl n ↦ inl (o.1 ∙ n) | inr t ↦ inr t ]
+    ]
+
+pub each_tested : (test : Part → Bool) (items : Items) → each_part test items ≡ true → (p : Part) → (bag_of items p ≡ 0) ⊎ (test p ≡ true)
+each_tested test items e p = let h = and_parts (shares && tokens) (test Credit) e in let f = and_parts shares tokens h.0 in go p f.0 f.1 h.1
+  where
+    shares : Bool
+    shares = list_all (λ (s : Share). test (ShareOf s.buffer)) items.shares
+
+    tokens : Bool
+    tokens = list_all (λ u. test (TokenOf u)) items.tokens
+
+    go : (p : Part) → shares ≡ true → tokens ≡ true → test Credit ≡ true → (bag_of items p ≡ 0) ⊎ (test p ≡ true)
+    go (ShareOf b) h g f = shares_tested test items.shares b h
+    go (TokenOf u) h g f = tokens_tested test items.tokens u g
+    go Credit h g f = inr f
+
+-- What each part passes, each that items name does.
+pub all_tested : (test : Part → Bool) (items : Items) → ((p : Part) → test p ≡ true) → each_part test items ≡ true
+all_tested test items h = and_from _ _ (and_from _ _ (shares items.shares) (tokens items.tokens)) (h Credit)
+  where
+    shares : (ss : List Share) → list_all (λ (s : Share). test (ShareOf s.buffer)) ss ≡ true
+    shares [] = refl
+    shares (s ∷ ss) = and_from _ _ (h (ShareOf s.buffer)) (shares ss)
+
+    tokens : (ts : List ℕ) → list_all (λ u. test (TokenOf u)) ts ≡ true
+    tokens [] = refl
+    tokens (t ∷ ts) = and_from _ _ (h (TokenOf t)) (tokens ts)
+
+-- A test that says less is passed where one that says more is.
+pub less_tested : (a b : Part → Bool) (items : Items) → ((p : Part) → a p ≡ true → b p ≡ true) → each_part a items ≡ true → each_part b items ≡ true
+less_tested a b items h e =
+    let x = and_parts (shares_pass a items.shares && tokens_pass a items.tokens) (a Credit) e in
+    let y = and_parts (shares_pass a items.shares) (tokens_pass a items.tokens) x.0 in
+    and_from _ _ (and_from _ _ (shares items.shares y.0) (tokens items.tokens y.1)) (h Credit x.1)
+  where
+    shares_pass : (Part → Bool) → List Share → Bool
+    shares_pass test ss = list_all (λ (s : Share). test (ShareOf s.buffer)) ss
+
+    tokens_pass : (Part → Bool) → List ℕ → Bool
+    tokens_pass test ts = list_all (λ u. test (TokenOf u)) ts
+
+    shares : (ss : List Share) → shares_pass a ss ≡ true → shares_pass b ss ≡ true
+    shares [] f = refl
+    shares (s ∷ ss) f = let g = and_parts (a (ShareOf s.buffer)) (shares_pass a ss) f in and_from _ _ (h (ShareOf s.buffer) g.0) (shares ss g.1)
+
+    tokens : (ts : List ℕ) → tokens_pass a ts ≡ true → tokens_pass b ts ≡ true
+    tokens [] f = refl
+    tokens (t ∷ ts) f = let g = and_parts (a (TokenOf t)) (tokens_pass a ts) f in and_from _ _ (h (TokenOf t) g.0) (tokens ts g.1)
+
+pub true_not : {b : Bool} → b ≡ true → not b ≡ false
+true_not {b = true} e = refl
+true_not {b = false} e = absurd (cc)
+
+module _ (P : Program) (pool : Pool) (items : Items) where
   -- What the pool includes is there, part by part.
   pub included : includes P pool items ≡ true → (p : Part) → bag_of items p ≤ pooled P pool p
-  included e p = let h = and_parts (has_shares && has_tokens) (nat_le items.credits (pooled P pool Credit)) e in let f = and_parts has_shares has_tokens h.0 in go p f.0 f.1 h.1
-    where
-      has_shares : Bool
-      has_shares = list_all (λ (s : Share). nat_le s.count (pooled P pool (ShareOf s.buffer))) items.shares
-
-      has_tokens : Bool
-      has_tokens = list_all (λ u. nat_le 1 (pooled P pool (TokenOf u))) items.tokens
-
-      go : (p : Part) → has_shares ≡ true → has_tokens ≡ true → nat_le items.credits (pooled P pool Credit) ≡ true → bag_of items p ≤ pooled P pool p
-      go (ShareOf b) h g f = elim (share_named items.shares b of.distinct_buffers) [
-        | inl n ↦ omega (arith, n)
-        | inr s ↦
-            let t : (get_or items.shares s.place no_share).count ≤ pooled P pool (ShareOf (get_or items.shares s.place no_share).buffer) = leb-true _ _ (all_at (λ (s : Share). nat_le s.count (pooled P pool (ShareOf s.buffer))) items.shares s.place no_share h s.within) in
-            let w : slice_index pool.shares (get_or items.shares s.place no_share).buffer ≡ slice_index pool.shares b = ap (slice_index pool.shares) s.buffer in
-            omega (arith, t, w, s.count)
-      ]
-      go (TokenOf u) h g f = elim (token_named items.tokens u of.distinct_tokens) [
-        | inl n ↦ omega (arith, n)
-        | inr s ↦
-            let t : 1 ≤ pooled P pool (TokenOf (get_or items.tokens s.place 0)) = leb-true _ _ (all_at (λ u. nat_le 1 (pooled P pool (TokenOf u))) items.tokens s.place 0 g s.within) in
-            let w : pooled P pool (TokenOf (get_or items.tokens s.place 0)) ≡ pooled P pool (TokenOf u) = ap (λ v. pooled P pool (TokenOf v)) s.token in
-            omega (arith, t, w, s.once)
-      ]
-      go Credit h g f = leb-true _ _ f
-
-  -- Where the pool has room for the items, no buffer that they name would have more shares than there are.
-  pub shares_fit : list_any (λ (s : Share). nat_lt (shares_at P.buffers s.buffer) (pooled P pool (ShareOf s.buffer) + s.count)) items.shares ≡ false → (b : ℕ) → (shares_in items.shares b ≡ 0) ⊎ (slice_index pool.shares b + shares_in items.shares b ≤ shares_at P.buffers b)
-  shares_fit e b = elim (share_named items.shares b of.distinct_buffers) [
-    | inl n ↦ inl n
-    | inr s ↦ inr (
-        let t : pooled P pool (ShareOf (get_or items.shares s.place no_share).buffer) + (get_or items.shares s.place no_share).count ≤ shares_at P.buffers (get_or items.shares s.place no_share).buffer = ltb-false _ _ (none_at (λ (s : Share). nat_lt (shares_at P.buffers s.buffer) (pooled P pool (ShareOf s.buffer) + s.count)) items.shares s.place no_share e s.within) in
-        let w : slice_index pool.shares (get_or items.shares s.place no_share).buffer ≡ slice_index pool.shares b = ap (slice_index pool.shares) s.buffer in
-        let l : shares_at P.buffers (get_or items.shares s.place no_share).buffer ≡ shares_at P.buffers b = ap (λ c. shares_at P.buffers c) s.buffer in
-        omega (arith, t, w, l, s.count)
-        )
+  included e p = elim (each_tested (λ p. nat_le (bag_of items p) (pooled P pool p)) items e p) [
+    | inl n ↦ omega (arith, n)
+    | inr t ↦ leb-true _ _ t
   ]
 
-  -- So no count overflows.
-  pub shares_small : IsProgram P → overfills P (pooled P pool) items ≡ false → (b : ℕ) → (shares_in items.shares b ≡ 0) ⊎ (slice_index pool.shares b + shares_in items.shares b < 2 ^ 32)
-  shares_small made e b =
-      let h = or_parts (too_many || some) (nat_lt P.completion_entries (pooled P pool Credit + items.credits)) e in
-      let f = or_parts too_many some h.0 in
-      elim (shares_fit f.0 b) [
-        | inl n ↦ inl n
-        | inr l ↦ inr (omega (arith, l, few_shares P b made))
-      ]
-    where
-      too_many : Bool
-      too_many = list_any (λ (s : Share). nat_lt (shares_at P.buffers s.buffer) (pooled P pool (ShareOf s.buffer) + s.count)) items.shares
-
-      some : Bool
-      some = list_any (λ u. nat_le 1 (pooled P pool (TokenOf u))) items.tokens
+  -- Where the pool has room for the items, of no part that they name there would be more than there are.
+  pub all_fit : overfills P (pooled P pool) items ≡ false → (p : Part) → (bag_of items p ≡ 0) ⊎ (pooled P pool p + bag_of items p ≤ all_of P p)
+  all_fit e p = elim (each_tested (fits P (pooled P pool) items) items (not-false _ e) p) [
+    | inl n ↦ inl n
+    | inr t ↦ inr (leb-true _ _ t)
+  ]

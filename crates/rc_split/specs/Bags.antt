@@ -1,8 +1,8 @@
 -- Bags: how many of each part somebody holds.
-use Rattle.std.specs.Prelude.{ℕ, ◌≡◌, ◌+◌, ◌-◌, ◌≤◌, Bool, true, false, cond, min, nat_eq, sum_by, count_by, List, [], None}
+use Rattle.std.specs.Prelude.{ℕ, ◌≡◌, ◌+◌, ◌-◌, ◌≤◌, Bool, true, false, cond, min, nat_eq, sum_by, count_by, List, [], ◌++◌, map, None}
 use Rattle.rc_lang.specs.declared.program.Share.{Share}
 use Rattle.rc_lang.specs.declared.program.Token.{Token}
-use Rattle.rc_lang.specs.Program.{Items, Thread, besides, no_more}
+use Rattle.rc_lang.specs.Program.{Items, Stock, Thread, besides, no_more}
 
 -- what holdings are made of: shares of the buffer with a number, the token with a user data, credits for completions
 pub data Part : Type 0 where
@@ -64,9 +64,13 @@ bag_on false items = plus (bag_of items) (bag_of (besides items))
 abbrev pub lacking : List Token → (Part → ℕ) → ℕ
 lacking tokens b = count_by (λ (t : Token). nat_eq (b (TokenOf t.user_data)) 0) tokens
 
--- how many credits these threads begin with
-abbrev pub credits_given : List Thread → ℕ
-credits_given threads = sum_by (λ (t : Thread). t.items.credits) threads
+-- what pools have at the start, and what threads begin with, in the order of their lines
+abbrev pub begun : List Stock → List Thread → List Items
+begun stock threads = map (λ (s : Stock). s.items) stock ++ map (λ (t : Thread). t.items) threads
+
+-- how many credits these lists give
+abbrev pub credits_given : List Items → ℕ
+credits_given lists = sum_by (λ (i : Items). i.credits) lists
 
 -- The second bag covers the first.
 abbrev pub IsWithin : (Part → ℕ) → (Part → ℕ) → Type 0

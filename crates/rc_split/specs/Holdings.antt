@@ -1,7 +1,8 @@
 -- What a `Holding` stands for: the bag that is in its rows.
 use Rattle.std.specs.Prelude.{ℕ, ◌≡◌, ◌+◌, ◌≤◌, ◌⊎◌, ◌/◌, ◌%◌, ◌^◌, ◌<◌, Bool, true, false, cond, List, length, Option, Some, None, nat_eq, nat_le, slice_index, All}
 use Rattle.std.specs.Int.{bit_at}
-use Rattle.rc_lang.specs.Program.{Program, IsProgram, DeclaresToken, token_place}
+use Rattle.rc_lang.specs.Program.{Program, DeclaresToken, token_place}
+use Rattle.rc_lang.specs.Views.{IsView}
 use Rattle.rc_lang.specs.declared.program.Share.{Share}
 use Rattle.rc_split.specs.declared.holding.Rows.{Rows}
 use Rattle.rc_split.specs.declared.part.Part.{Part as Given}
@@ -9,7 +10,8 @@ use Rattle.rc_split.specs.declared.part.Part.TheVariants.{Shares, Token, Credits
 use Rattle.rc_lang.specs.Program.{Items, besides}
 use Rattle.rc_split.specs.Bags.{Part, ShareOf, TokenOf, Credit, shares_bag, token_bag, credits_bag, bag_of, bag_on, shares_alone, plus, minus, least, IsWithin}
 
--- a program's shares by the numbers of its buffers, marks at the places of its tokens that are held, and the credits
+-- a program as its holder names it: shares by the numbers of its buffers, marks at the places of its tokens that are
+-- held, and the credits
 pub record Holding : Type 0 where
   pub program : Program
   pub shares : List ℕ
@@ -35,9 +37,9 @@ bag h (ShareOf b) = slice_index h.shares b
 bag h (TokenOf u) = token_at h.marks (token_place h.program.tokens u)
 bag h Credit = h.credits
 
--- Every count is below 2^20, and the program was made.
+-- Every count is below 2^20, and the program is a view.
 pub record IsSound (h : Holding) : Type 0 where
-  pub made : IsProgram h.program
+  pub made : IsView h.program
   pub shares : (b : ℕ) → slice_index h.shares b < 2 ^ 20
   pub credits : h.credits < 2 ^ 20
 

@@ -1,18 +1,24 @@
 -- The pools: what threads put where each of them can take it.
-use Rattle.std.specs.Prelude.{ℕ, ◌+◌, ◌-◌, Bool, true, false, cond, ◌&&◌, ◌||◌, sum_by, List, fold, replicate, Option, Some, None, nat_le, nat_lt, slice_index, slice_index_or, slice_set}
-use Rattle.std.specs.List.{list_all, list_any}
+use Rattle.std.specs.Prelude.{ℕ, ◌≡◌, ◌+◌, ◌-◌, ◌<◌, ◌^◌, ◌⊎◌, Bool, true, false, cond, not, ◌&&◌, sum_by, List, [], length, fold, replicate, Option, Some, None, nat_le, slice_index, slice_index_or, slice_set}
+use Rattle.std.specs.List.{list_all}
 use Rattle.rc_lang.specs.declared.program.Share.{Share}
-use Rattle.rc_lang.specs.Program.{Program, Items, shares_at, token_place}
-use Rattle.rc_split.specs.Bags.{Part, ShareOf, TokenOf, Credit}
+use Rattle.rc_lang.specs.Program.{Program, Items, Stock, shares_at, token_place}
+use Rattle.rc_split.specs.Bags.{Part, ShareOf, TokenOf, Credit, bag_of}
 
--- shares by the numbers of their buffers, whether a token is there by its place among the program's, and credits
+-- Shares by the numbers of their buffers, whether a token is there by its place among the program's, and credits. What is
+-- behind the end of a list isn't there.
 pub record Pool : Type 0 where
   pub shares : List ℕ
   pub marks : List Bool
   pub credits : ℕ
 
-abbrev pub empty_pool : Pool
-empty_pool = record { shares = replicate 64 0; marks = replicate 256 false; credits = 0 }
+-- a pool with nothing in it, which has a place for each buffer and each token of a program
+abbrev pub empty_pool : Program → Pool
+empty_pool P = record { shares = replicate (length P.buffers) 0; marks = replicate (length P.tokens) false; credits = 0 }
+
+-- a pool that isn't there
+abbrev pub no_pool : Pool
+no_pool = record { shares = []; marks = []; credits = 0 }
 
 -- 1 at the place of a token that is there
 abbrev pub mark_at : List Bool → Option ℕ → ℕ
@@ -25,28 +31,27 @@ pooled P pool (ShareOf b) = slice_index pool.shares b
 pooled P pool (TokenOf u) = mark_at pool.marks (token_place P.tokens u)
 pooled P pool Credit = pool.credits
 
--- The pool has so many shares of a buffer, a token.
-abbrev pub has_share : Pool → Share → Bool
-has_share pool s = nat_le s.count (slice_index pool.shares s.buffer)
+-- whether each part that items name passes a test
+abbrev pub each_part : (Part → Bool) → Items → Bool
+each_part test items = list_all (λ (s : Share). test (ShareOf s.buffer)) items.shares && list_all (λ u. test (TokenOf u)) items.tokens && test Credit
 
-abbrev pub has_token : Program → Pool → ℕ → Bool
-has_token P pool u = nat_le 1 (pooled P pool (TokenOf u))
-
--- It has at least the items.
+-- The pool has as many of each part as the items name together.
 abbrev pub includes : Program → Pool → Items → Bool
-includes P pool items = list_all (has_share pool) items.shares && list_all (has_token P pool) items.tokens && nat_le items.credits pool.credits
+includes P pool items = each_part (λ p. nat_le (bag_of items p) (pooled P pool p)) items
 
--- Where so much of each part is there, with these shares there would be more of their buffer than it has.
-abbrev pub is_too_many : Program → (Part → ℕ) → Share → Bool
-is_too_many P there s = nat_lt (shares_at P.buffers s.buffer) (there (ShareOf s.buffer) + s.count)
+-- as many of each part as there are: the shares of a buffer, one of each token, and a credit for each completion entry
+abbrev pub all_of : Program → Part → ℕ
+all_of P (ShareOf b) = shares_at P.buffers b
+all_of P (TokenOf u) = 1
+all_of P Credit = P.completion_entries
 
-abbrev pub is_there : (Part → ℕ) → ℕ → Bool
-is_there there u = nat_le 1 (there (TokenOf u))
+-- Where so many of each part are there, with the items there would be no more of this one than there are.
+abbrev pub fits : Program → (Part → ℕ) → Items → Part → Bool
+fits P there items p = nat_le (there p + bag_of items p) (all_of P p)
 
--- With the items there would be more shares of a buffer than it has, a token twice, or more credits than completion
--- entries.
+-- With the items there would be more of a part than there are.
 abbrev pub overfills : Program → (Part → ℕ) → Items → Bool
-overfills P there items = list_any (is_too_many P there) items.shares || list_any (is_there there) items.tokens || nat_lt P.completion_entries (there Credit + items.credits)
+overfills P there items = not (each_part (fits P there items) items)
 
 -- ---- items that are put, and that are taken
 
@@ -84,6 +89,10 @@ without_items P pool items = record {
   credits = pool.credits - items.credits;
 }
 
+-- With the items no count of a part that they name comes to 2^32.
+abbrev pub CanAdd : Program → Pool → Items → Type 0
+CanAdd P pool items = (p : Part) → (bag_of items p ≡ 0) ⊎ (pooled P pool p + bag_of items p < 2 ^ 32)
+
 -- ---- all pools
 
 -- The pool without a name, and those with one, by their numbers.
@@ -91,14 +100,13 @@ pub record Pools : Type 0 where
   pub unnamed : Pool
   pub named : List Pool
 
-abbrev pub empty_pools : ℕ → Pools
-empty_pools n = record { unnamed = empty_pool; named = replicate n empty_pool }
+abbrev pub empty_pools : Program → Pools
+empty_pools P = record { unnamed = empty_pool P; named = replicate (length P.pools) (empty_pool P) }
 
--- The pool with this number among those with a name, or the one without. A pool that isn't there is empty, and nothing is
--- put into it.
+-- The pool with this number among those with a name, or the one without. Nothing is put into a pool that isn't there.
 abbrev pub pool_of : Pools → Option ℕ → Pool
 pool_of pools None = pools.unnamed
-pool_of pools (Some n) = slice_index_or pools.named n empty_pool
+pool_of pools (Some n) = slice_index_or pools.named n no_pool
 
 abbrev pub with_pool : Option ℕ → Pool → Pools → Pools
 with_pool None pool pools = record pools { unnamed = pool }
@@ -109,6 +117,10 @@ put_into P name items pools = with_pool name (with_items P (pool_of pools name) 
 
 abbrev pub taken_from : Program → Option ℕ → Items → Pools → Pools
 taken_from P name items pools = with_pool name (without_items P (pool_of pools name) items) pools
+
+-- What they have at the start is what their lines say.
+abbrev pub start_pools : Program → Pools
+start_pools P = fold (λ (pools : Pools) (s : Stock). put_into P s.pool s.items pools) (empty_pools P) P.stock
 
 -- a sum over all of them
 abbrev pub in_all : (Pool → ℕ) → Pools → ℕ

@@ -2,18 +2,21 @@
 
 ghost use Rattle.std.specs.Prelude.{◌≡◌, ◌^◌, ◌<◌, ℕ, IsOkAnd, IsTrue, ◌↔◌, true, ◌≤◌, All, nat_eq};
 ghost use Rattle.rc_lang.specs.Parts.{view_items};
-ghost use Rattle.rc_lang.specs.Program.{IsProgram, DeclaresToken};
+ghost use Rattle.rc_lang.specs.Program.{DeclaresToken};
+ghost use Rattle.rc_lang.specs.Views.{IsView, seen};
 ghost use Rattle.rc_split.specs.Bags as bags;
 ghost use Rattle.rc_split.specs.Bags.{bag_of, parts};
 ghost use Rattle.rc_split.specs.Holdings as spec;
 
+use crate::begun::credits_given;
 use crate::part::Part;
 use crate::rows;
-use rc_lang::program::{Items, Program, Share};
+use rc_lang::program::{Items, Share};
+use rc_lang::view::View;
 use std::alloc::{AllocError, Global};
 use std::marker::Model;
 
-/// How many of each part are held, apart from the program, so that one copy takes all.
+/// How many of each part are held, apart from the view, so that one copy takes all.
 #[derive(Clone, Copy, Drop)]
 struct Rows {
     /// By the numbers of the buffers.
@@ -27,7 +30,7 @@ struct Rows {
 /// What a thread holds at some point of a program.
 #[derive(Drop)]
 pub struct Holding<'a> {
-    program: &'a Program,
+    view: View<'a>,
     rows: Rows,
 }
 
@@ -36,27 +39,29 @@ impl<'a> Model for Holding<'a> {
 
     ghost Value = { spec.Holding };
 
-    ghost view = { λ h. spec.holding_in h.program.now h.rows };
+    ghost use Rattle.rc_lang.specs.Views.{seen};
 
-    ghost invariant = { λ h. spec.IsSound (spec.holding_in h.program.now h.rows) };
+    ghost view = { λ h. spec.holding_in (seen h.view) h.rows };
+
+    ghost invariant = { λ h. spec.IsSound (spec.holding_in (seen h.view) h.rows) };
 }
 
 impl<'a> Holding<'a> {
-    /// Nothing of the program's is held. This takes no memory and always answers Ok.
-    pub fn empty(_alloc: Global, program: &'a Program) -> Result<Holding<'a>, AllocError>
-        ensures { IsOkAnd result (λ h. spec.Holds h program.now bags.nothing) }
+    /// Nothing of the view's is held. This takes no memory and always answers Ok.
+    pub fn empty(_alloc: Global, view: View<'a>) -> Result<Holding<'a>, AllocError>
+        ensures { IsOkAnd result (λ h. spec.Holds h (seen view.entry) bags.nothing) }
     {
-        Ok(Holding::nothing(program))
+        Ok(Holding::nothing(view))
     }
 
-    /// Nothing of the program's is held, as [`empty`](Holding::empty) makes it.
-    pub fn nothing(program: &'a Program) -> Holding<'a>
-        ensures { spec.Holds result program.now bags.nothing }
+    /// Nothing of the view's is held, as [`empty`](Holding::empty) makes it.
+    pub fn nothing(view: View<'a>) -> Holding<'a>
+        ensures { spec.Holds result (seen view.entry) bags.nothing }
     {
-        // Any of a program's readers says that it was made, and so how many buffers and tokens it has at most.
-        let _ = program.entries();
+        // This says that the view is one of a made program, and so how many buffers and tokens it has at most.
+        let _ = view.entries();
         Holding {
-            program,
+            view,
             rows: Rows {
                 shares: [0; 64],
                 marks: [0; 4],
@@ -78,7 +83,7 @@ impl<'a> Holding<'a> {
         ensures small { (p : bags.Part) → spec.bag self.now p < 2 ^ 20 }
     {
         Holding {
-            program: self.program,
+            view: self.view,
             rows: self.rows,
         }
     }
@@ -87,25 +92,25 @@ impl<'a> Holding<'a> {
     pub fn copy_from(&mut self, other: &Holding<'a>)
         ensures { self.new ≡ other.now }
     {
-        self.program = other.program;
+        self.view = other.view;
         self.rows = other.rows;
     }
 
-    /// Becomes a holding of this program, with the rows that it has.
-    pub fn belong_to(&mut self, program: &'a Program)
-        ensures { self.new ≡ record self.old { program = program.now } }
+    /// Becomes a holding of this view, with the rows that it has.
+    pub fn belong_to(&mut self, view: View<'a>)
+        ensures { self.new ≡ record self.old { program = seen view.entry } }
     {
         // As in `nothing`.
-        let _ = program.entries();
-        self.program = program;
+        let _ = view.entries();
+        self.view = view;
     }
 
-    /// The program whose parts are held.
-    pub fn program(&self) -> &'a Program
-        ensures value { result.now ≡ self.now.program }
-        ensures made { IsProgram self.now.program }
+    /// The program whose parts are held, as the holder names them.
+    pub fn view(&self) -> View<'a>
+        ensures value { seen result ≡ self.now.program }
+        ensures made { IsView self.now.program }
     {
-        self.program
+        self.view
     }
 
     /// Whether the part is held: so many shares, the token, so many credits.
@@ -133,29 +138,25 @@ impl<'a> Holding<'a> {
         self.rows.credits
     }
 
-    /// How many of the program's tokens aren't held, at most 256.
+    /// How many of the view's tokens aren't held, at most 256.
     pub fn lacking(&self) -> u32
         ensures value { result ≡ bags.lacking self.now.program.tokens (spec.bag self.now) }
         ensures few { result ≤ 256 }
     {
-        let tokens = self.program.tokens();
+        let tokens = self.view.tokens();
         tokens
             .iter()
             .filter(|token| self.lacks_token(token.user_data))
             .count() as u32
     }
 
-    /// How many credits the program's threads begin with, at most 32,768.
+    /// How many credits the program's pools and threads begin with, at most 165,888.
     pub fn credits_given(&self) -> u32
-        ensures value { result ≡ bags.credits_given self.now.program.threads }
-        ensures few { result ≤ 32768 }
+        ensures value { result ≡ bags.credits_given
+            (bags.begun self.now.program.stock self.now.program.threads) }
+        ensures few { result ≤ 165888 }
     {
-        let mut given = 0;
-        let threads = self.program.threads();
-        for thread in threads {
-            given += thread.items.credits;
-        }
-        given
+        credits_given(self.view)
     }
 
     fn lacks_token(&self, user_data: u64) -> bool
@@ -167,7 +168,7 @@ impl<'a> Holding<'a> {
     fn holds_token(&self, user_data: u64) -> bool
         ensures { result ≡ spec.covers_part (spec.bag self.now) (Part.Token user_data) }
     {
-        match self.program.token_place(user_data) {
+        match self.view.token_place(user_data) {
             Some(place) => rows::is_marked(&self.rows.marks, place),
             None => false,
         }
@@ -347,7 +348,7 @@ impl<'a> Holding<'a> {
     fn take_token(&mut self, user_data: u64) -> Option<()>
         ensures { spec.Takes self.old self.new (Part.Token user_data) result }
     {
-        let place = self.program.token_place(user_data)?;
+        let place = self.view.token_place(user_data)?;
         if !rows::is_marked(&self.rows.marks, place) {
             return None;
         }
@@ -370,12 +371,12 @@ impl<'a> Holding<'a> {
         requires { spec.IsPlaced self.old.program user_data }
         ensures { spec.Marks self.old self.new user_data held }
     {
-        if let Some(place) = self.program.token_place(user_data) {
+        if let Some(place) = self.view.token_place(user_data) {
             rows::mark(&mut self.rows.marks, place, held);
         }
     }
 
-    /// Leaves the least of both, part by part. Both are of one program.
+    /// Leaves the least of both, part by part. Both are of one view.
     pub fn meet(&mut self, other: &Holding)
         requires { other.now.program ≡ self.old.program }
         ensures { spec.Meets self.old self.new (spec.bag other.now) }

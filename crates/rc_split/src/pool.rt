@@ -1,24 +1,26 @@
 //! A pool: what threads put where each of them can take it.
 
-ghost use Rattle.std.specs.Prelude.{◌≡◌, ◌<◌, false, slice_index, All};
-ghost use Rattle.std.specs.List.{list_all};
+ghost use Rattle.std.specs.Prelude.{◌≡◌, false, nat_le, slice_index, IfOk};
 ghost use Rattle.rc_lang.specs.Parts.{view_items};
-ghost use Rattle.rc_lang.specs.declared.program.Share as given;
-ghost use Rattle.rc_lang.specs.Program.{IsItems};
+ghost use Rattle.rc_split.specs.Bags.{TokenOf};
 ghost use Rattle.rc_split.specs.Holdings.{CanCount};
 ghost use Rattle.rc_split.specs.Pools as spec;
 ghost use Rattle.rc_split.specs.Pools.{fewer_shares, more_shares};
 
+use crate::lists::{count_at, cover_shares, cover_tokens, mark_of};
 use crate::rows;
 use rc_lang::program::{Items, Program, Share};
+use std::alloc::{AllocError, Global};
 use std::marker::Model;
 
 /// What is in the pool: shares of buffers, tokens and credits. In a program of liburing it is a table of flags, which a
 /// thread sets and tests while it holds the lock.
-#[derive(Clone, Copy)]
+#[derive(Drop)]
 pub struct Pool {
-    shares: [u32; 64],
-    marks: [bool; 256],
+    /// By the numbers of the buffers.
+    shares: Vec<u32>,
+    /// By the places of the tokens.
+    marks: Vec<bool>,
     credits: u32,
 }
 
@@ -27,21 +29,44 @@ impl Model for Pool {
 
     ghost Value = { spec.Pool };
 
-    ghost view = { λ p. record { shares = p.shares; marks = p.marks; credits = p.credits } };
-
-    ghost inverse = { λ d. record { shares = d.shares; marks = d.marks; credits = d.credits } };
+    ghost view = { λ p. record { shares = p.shares.items; marks = p.marks.items; credits = p.credits } };
 }
 
 impl Pool {
-    /// A pool with nothing in it.
-    pub fn empty() -> Pool
-        ensures { result ≡ spec.empty_pool }
+    /// A pool with nothing in it, which has a place for each buffer and each token of the program.
+    pub fn empty(alloc: Global, program: &Program) -> Result<Pool, AllocError>
+        ensures { IfOk result (λ p. p ≡ spec.empty_pool program.now) }
+    {
+        let shares = vec![in alloc; 0; program.buffers().len()]?;
+        let marks = vec![in alloc; false; program.tokens().len()]?;
+        Ok(Pool {
+            shares,
+            marks,
+            credits: 0,
+        })
+    }
+
+    /// A pool that isn't there: it has a place for nothing. This takes no memory.
+    pub fn none(alloc: Global) -> Pool
+        ensures { result ≡ spec.no_pool }
     {
         Pool {
-            shares: [0; 64],
-            marks: [false; 256],
+            shares: Vec::new(alloc),
+            marks: Vec::new(alloc),
             credits: 0,
         }
+    }
+
+    /// Becomes the same as another pool, in the memory that it has. Where memory runs out, what was in it is lost.
+    pub fn copy_from(&mut self, other: &Pool) -> Result<(), AllocError>
+        ensures { IfOk result (λ _. self.new ≡ other.now) }
+    {
+        self.shares.clear();
+        self.shares.extend_from_slice(&other.shares)?;
+        self.marks.clear();
+        self.marks.extend_from_slice(&other.marks)?;
+        self.credits = other.credits;
+        Ok(())
     }
 
     /// How many credits are in the pool.
@@ -51,24 +76,41 @@ impl Pool {
         self.credits
     }
 
-    /// Whether the pool has at least the items.
+    /// How many shares of a buffer are in the pool.
+    pub fn shares_of(&self, buffer: usize) -> u32
+        ensures { result ≡ slice_index self.now.shares buffer }
+    {
+        count_at(&self.shares, buffer)
+    }
+
+    /// How many of a token of the program are in the pool: one or none.
+    pub fn tokens_of(&self, program: &Program, user_data: u64) -> u32
+        ensures { result ≡ spec.pooled program.now self.now (TokenOf user_data) }
+    {
+        mark_of(&self.marks, program, user_data)
+    }
+
+    /// Whether a token of the program is in the pool.
+    pub fn has_token(&self, program: &Program, user_data: u64) -> bool
+        ensures { result ≡ nat_le 1 (spec.pooled program.now self.now (TokenOf user_data)) }
+    {
+        1 <= self.tokens_of(program, user_data)
+    }
+
+    /// Whether the pool has as many of each part as the items name together.
     pub fn includes(&self, program: &Program, items: &Items) -> bool
         ensures { result ≡ spec.includes program.now self.now (view_items items.now) }
     {
-        let shares = self.has_shares(&items.shares);
-        let tokens = self.has_tokens(program, &items.tokens);
+        let shares = cover_shares(&self.shares, &items.shares);
+        let tokens = cover_tokens(&self.marks, program, &items.tokens);
         shares && tokens && items.credits <= self.credits
     }
 
-    /// Puts the items into the pool, which has room for them. They are items of the program.
+    /// Puts the items into the pool. No count that they name overflows.
     pub fn put(&mut self, program: &Program, items: &Items)
-        requires made { IsItems program.now (view_items items.now) }
-        requires room { spec.overfills program.now (spec.pooled program.now self.old)
-            (view_items items.now) ≡ false }
+        requires { spec.CanAdd program.now self.old (view_items items.now) }
         ensures { self.new ≡ spec.with_items program.now self.old (view_items items.now) }
     {
-        // Any of a program's readers says that it was made, and so how many shares and credits there are at most.
-        let _ = program.entries();
         self.credits += items.credits;
         self.add_shares(&items.shares);
         self.mark_all(program, &items.tokens, true);
@@ -83,46 +125,13 @@ impl Pool {
         self.credits = self.credits.saturating_sub(items.credits);
     }
 
-    /// How many shares of a buffer are in the pool.
-    pub fn shares_of(&self, buffer: usize) -> u32
-        ensures { result ≡ slice_index self.now.shares buffer }
-    {
-        self.shares.get(buffer).copied().unwrap_or(0)
-    }
-
-    fn has_shares(&self, shares: &[Share]) -> bool
-        ensures { result ≡ list_all (spec.has_share self.now) shares.now }
-    {
-        shares
-            .iter()
-            .all(|share| share.count <= self.shares_of(share.buffer))
-    }
-
-    /// Whether a token of the program is in the pool.
-    pub fn has_token(&self, program: &Program, user_data: u64) -> bool
-        ensures { result ≡ spec.has_token program.now self.now user_data }
-    {
-        match program.token_place(user_data) {
-            Some(place) => self.marks.get(place).copied().unwrap_or(false),
-            None => false,
-        }
-    }
-
-    fn has_tokens(&self, program: &Program, tokens: &[u64]) -> bool
-        ensures { result ≡ list_all (spec.has_token program.now self.now) tokens.now }
-    {
-        tokens.iter().all(|token| self.has_token(program, *token))
-    }
-
-    /// Adds these shares, of buffers that have a place here. No count of a buffer that they name overflows.
+    /// Adds these shares. No count of a buffer that they name overflows.
     fn add_shares(&mut self, shares: &[Share])
-        requires there { All (λ (s : given.Share). s.buffer < 64) shares.now }
-        requires small { CanCount self.old.shares shares.now }
+        requires { CanCount self.old.shares shares.now }
         ensures { self.new ≡ record self.old { shares = more_shares self.old.shares shares.now } }
     {
         for share in shares {
-            let there = self.shares_of(share.buffer);
-            self.shares[share.buffer] = there + share.count;
+            rows::heighten(&mut self.shares, share.buffer, share.count);
         }
     }
 
@@ -147,7 +156,7 @@ impl Pool {
         ensures { self.new ≡ spec.with_token program.now is self.old user_data }
     {
         if let Some(place) = program.token_place(user_data) {
-            self.marks[place] = is;
+            rows::flag(&mut self.marks, place, is);
         }
     }
 }

@@ -1,6 +1,6 @@
 //! Rows of counts and marks.
 
-ghost use Rattle.std.specs.Prelude.{◌≡◌, ◌+◌, ◌-◌, ◌^◌, ◌<◌, ◌≤◌, ℕ, cond, min, nat_eq, slice_index, slice_set, ◌&&◌};
+ghost use Rattle.std.specs.Prelude.{◌≡◌, ◌+◌, ◌-◌, ◌^◌, ◌<◌, ◌≤◌, ◌⊎◌, ℕ, cond, min, nat_eq, slice_index, slice_set, ◌&&◌};
 ghost use Rattle.rc_split.specs.Holdings as spec;
 
 /// Takes so many from the count at a place.
@@ -14,11 +14,30 @@ pub fn lessen(row: &mut [u32; 64], place: usize, by: u32)
 }
 
 /// Takes so many from the count at a place, or as many as are there.
-pub fn lower(row: &mut [u32; 64], place: usize, by: u32)
+pub fn lower(row: &mut [u32], place: usize, by: u32)
     ensures { row.new ≡ slice_set row.old place (slice_index row.old place - by) }
 {
     if place < row.len() {
         row[place] = row[place].saturating_sub(by);
+    }
+}
+
+/// Adds so many to the count at a place, if the row has that place.
+pub fn heighten(row: &mut [u32], place: usize, by: u32)
+    requires { (by ≡ 0) ⊎ (slice_index row.old place + by < 2 ^ 32) }
+    ensures { row.new ≡ slice_set row.old place (slice_index row.old place + by) }
+{
+    if place < row.len() {
+        row[place] += by;
+    }
+}
+
+/// Sets the flag at a place, if the row has that place.
+pub fn flag(row: &mut [bool], place: usize, is: bool)
+    ensures { row.new ≡ slice_set row.old place is }
+{
+    if place < row.len() {
+        row[place] = is;
     }
 }
 

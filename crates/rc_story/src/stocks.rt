@@ -1,4 +1,4 @@
-//! What is in each pool after a row: what was put there less what was taken.
+//! What is in each pool after a row: what it has at the start, with what was put there less what was taken.
 
 use crate::fault::put_at_fault;
 use crate::frames::Frame;
@@ -101,7 +101,7 @@ impl Stock<'_> {
     }
 }
 
-/// The items that each pool holds after at least one row, in the order of the text.
+/// The items that each pool holds at the start or after a row, in the order of the text.
 pub fn stocks_of<'a>(
     alloc: Global,
     run: &Run<'_, 'a>,
@@ -124,7 +124,17 @@ pub fn stocks_of<'a>(
     Ok(stocks)
 }
 
-/// Adds an item of a pool, if the pool has some of it after some row.
+/// How many of an item a pool has at the start.
+fn level_at_start(program: &Program, pool: Option<usize>, item: PoolItem) -> u64 {
+    for stock in program.stock() {
+        if stock.pool == pool {
+            return item.count_in(&stock.items);
+        }
+    }
+    0
+}
+
+/// Adds an item of a pool, if the pool has some of it at the start or after some row.
 fn push_stock<'a>(
     stocks: &mut Vec<Stock<'a>>,
     alloc: Global,
@@ -134,7 +144,8 @@ fn push_stock<'a>(
     item: PoolItem,
 ) -> Result<(), AllocError> {
     let mut levels = Vec::new(alloc);
-    let (mut from, mut level, mut most) = (0, 0, 0);
+    let start = level_at_start(run.program, pool, item);
+    let (mut from, mut level, mut most) = (0, start, start);
     for stretch in stretches {
         let last = stretch.last(run.frames.len() as u64) as usize;
         for frame in run.frames.get(from..last).unwrap_or(&[]) {

@@ -7,7 +7,8 @@ use Rattle.rc_lang.specs.declared.lines.Op.{Op}
 use Rattle.rc_lang.specs.declared.lines.Test.{Test}
 use Rattle.rc_lang.specs.declared.lines.Test.TheVariants.{Compare, ReadyZero, SpaceAtLeast, Take, Any}
 use Rattle.rc_lang.specs.Locks.{no_lock, with_locks, without_locks}
-use Rattle.rc_lang.specs.Program.{Program, Items, Thread, IsProgram, IsItems, IsList, besides, items_at}
+use Rattle.rc_lang.specs.Program.{Program, Items, Thread, IsItems, IsList, besides, items_at}
+use Rattle.rc_lang.specs.Views.{IsView}
 use Rattle.rc_split.specs.Bags.{Part, TokenOf, bag_of, bag_on, plus}
 use Rattle.rc_rules.specs.declared.mode.Mode.{Mode}
 use Rattle.rc_rules.specs.declared.mode.Peeked.{Peeked}
@@ -88,7 +89,7 @@ fits_small held n (Live a m) l h = λ p. omega (arith, l, h.1 p)
 
 -- ---- effects
 
-pub op_fits : (P : Program) (held : Locks) (n : ℕ) (s : Label) (op : Op) → IsProgram P → Fits held n s → Fits held (n + 18) (goes s (λ bag m. op_effect P bag m op))
+pub op_fits : (P : Program) (held : Locks) (n : ℕ) (s : Label) (op : Op) → IsView P → Fits held n s → Fits held (n + 18) (goes s (λ bag m. op_effect P bag m op))
 op_fits P held n Dead op h f = tt
 op_fits P held n (Live a m) op h f = effect_by P a m op h (Fits held (n + 18)) tt (λ c k e l. (e ∙ f.0, λ p. omega (arith, f.1 p, l p)))
 
@@ -104,7 +105,7 @@ pub put_fits : (items : Items) (held : Locks) (n : ℕ) (s : Label) → Fits hel
 put_fits items held n Dead f = tt
 put_fits items held n (Live a m) f = (f.0, λ p. omega (arith, f.1 p))
 
-take_fits : (P : Program) (items : Items) (held : Locks) (n : ℕ) (a : Part → ℕ) (m : Mode) → IsProgram P → IsItems P items → 4096 ≤ n → Fits held n (Live a m) → Fits held n (take_effect P a m items)
+take_fits : (P : Program) (items : Items) (held : Locks) (n : ℕ) (a : Part → ℕ) (m : Mode) → IsView P → IsItems P items → 4096 ≤ n → Fits held n (Live a m) → Fits held n (take_effect P a m items)
 take_fits P items held n a m made of l f = go (can_take P a m items) refl
   where
     go : (c : Bool) → can_take P a m items ≡ c → Fits held n (cond c (Live (plus a (bag_of items)) m) Dead)
@@ -117,7 +118,7 @@ take_fits P items held n a m made of l f = go (can_take P a m items) refl
       ],
     )
 
-pub test_fits : (P : Program) (lists : List Items) (test : Test) (held : Locks) (n : ℕ) (s : Label) → IsProgram P → MayTest P lists test → 4096 ≤ n → Fits held n s → Fits held n (goes s (λ bag m. test_effect P lists bag m test))
+pub test_fits : (P : Program) (lists : List Items) (test : Test) (held : Locks) (n : ℕ) (s : Label) → IsView P → MayTest P lists test → 4096 ≤ n → Fits held n s → Fits held n (goes s (λ bag m. test_effect P lists bag m test))
 test_fits P lists test held n Dead made may l f = tt
 test_fits P lists (Compare x c v) held n (Live a m) made may l f = (test_locks P (Compare x c v) m ∙ f.0, f.1)
 test_fits P lists ReadyZero held n (Live a m) made may l f = (test_locks P ReadyZero m ∙ f.0, f.1)

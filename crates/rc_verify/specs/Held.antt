@@ -1,6 +1,7 @@
 -- Where a part was last held.
 use Rattle.std.specs.Prelude.{ℕ, ◌≡◌, ◌<◌, ◌≤◌, Bool, true, false, Option, Some, None, length, slice_get, take}
 use Rattle.rc_lang.specs.Program.{Program, Thread}
+use Rattle.rc_lang.specs.Views.{view_of}
 use Rattle.rc_split.specs.declared.part.Part.{Part as Given}
 use Rattle.rc_rules.specs.Labellings.{HasLabels}
 use Rattle.rc_rules.specs.Readers.{some_has}
@@ -19,4 +20,4 @@ IsLastHeld P t n part (Some k) = (k < n) × HasAt P t k part true × ((j : ℕ) 
 -- It is found where the lines before n have labels.
 abbrev pub FindsLastHeld : Program → ℕ → ℕ → Given → Option ℕ → Type 0
 FindsLastHeld P i n part last =
-    (t : Thread) → slice_get P.threads i ≡ Some t → n ≤ length t.lines → HasLabels P t (take n t.lines) → IsLastHeld P t n part last
+    (t : Thread) → slice_get P.threads i ≡ Some t → n ≤ length t.lines → HasLabels (view_of P i) t (take n t.lines) → IsLastHeld (view_of P i) t n part last

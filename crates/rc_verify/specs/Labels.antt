@@ -2,6 +2,7 @@
 use Rattle.std.specs.Prelude.{ℕ, ◌≡◌, ◌+◌, ◌<◌, true, false, Bool, List, Option, Some, None, Result, Ok, Err, length, take}
 use Rattle.rc_lang.specs.declared.lines.Line.{Line}
 use Rattle.rc_lang.specs.Program.{Program, Thread}
+use Rattle.rc_lang.specs.Views.{view_of}
 use Rattle.rc_rules.specs.declared.cause.Cause.{Cause}
 use Rattle.rc_rules.specs.Causes.{premise_number}
 use Rattle.rc_rules.specs.Labels.{Weaker}
@@ -17,16 +18,21 @@ pub record IsStrongestAt (P : Program) (t : Thread) (j : ℕ) (s : Sides) : Type
   pub one : (labels : List Sides) × IsGood P t (take j t.lines) labels × ((z : Bool) → label_at labels j z ≡ on z s)
   pub strongest : (labels : List Sides) → IsGood P t (take j t.lines) labels → (z : Bool) → Weaker (label_at labels j z) (on z s)
 
--- A place of a thread of a program, and the state there.
+-- A place of a thread of a program, by its number, and the state there.
 pub record Labels : Type 0 where
   pub program : Program
+  pub number : ℕ
   pub thread : Thread
   pub place : ℕ
   pub state : State
 
+-- the program as the thread names its parts
+abbrev pub named_in : Labels → Program
+named_in l = view_of l.program l.number
+
 -- The state has the strongest labels at the place.
 abbrev pub HasStrongest : Labels → Type 0
-HasStrongest l = IsStrongestAt l.program l.thread l.place (sides_of l.state)
+HasStrongest l = IsStrongestAt (named_in l) l.thread l.place (sides_of l.state)
 
 -- The line at j is refused for this cause.
 abbrev pub IsRefusedFor : Program → Thread → ℕ → Cause → Type 0
@@ -39,8 +45,8 @@ IsHere P t j s = IsOf P t s × IsStrongestAt P t j (sides_of s)
 -- It goes on to the next line; or it stays, where there is none and all lines have labels, or the line is refused.
 abbrev pub Goes : Labels → Labels → Result Bool Cause → Type 0
 Goes old new (Ok true) = (old.place < length old.thread.lines) × (new.place ≡ old.place + 1)
-Goes old new (Ok false) = (new ≡ old) × (old.place ≡ length old.thread.lines) × HasLabels old.program old.thread old.thread.lines
-Goes old new (Err cause) = (new ≡ old) × IsRefusedFor old.program old.thread old.place cause
+Goes old new (Ok false) = (new ≡ old) × (old.place ≡ length old.thread.lines) × HasLabels (named_in old) old.thread old.thread.lines
+Goes old new (Err cause) = (new ≡ old) × IsRefusedFor (named_in old) old.thread old.place cause
 
 -- Inside, a walk has come to the line, or the line is refused, and the state is that before it.
 abbrev pub IsAtLine : Program → Thread → ℕ → Walk → Option Cause → Type 0

@@ -6,7 +6,8 @@ use Rattle.rc_lang.specs.declared.lines.Block.TheVariants.{InIf, InElse, InPeek,
 use Rattle.rc_lang.specs.declared.lines.Line.{Line}
 use Rattle.rc_lang.specs.declared.lines.Locks.{Locks}
 use Rattle.rc_lang.specs.Nesting.{blocks_at, locks_in}
-use Rattle.rc_lang.specs.Program.{Program, Thread, IsProgram, IsThread}
+use Rattle.rc_lang.specs.Program.{Program, Thread, IsThread}
+use Rattle.rc_lang.specs.Views.{IsView}
 use Rattle.rc_rules.specs.declared.cause.Cause.{Cause}
 use Rattle.rc_rules.specs.declared.mode.Slot.TheVariants.{Closed}
 use Rattle.rc_split.specs.Bags.{Part}
@@ -77,7 +78,7 @@ abbrev pub listed : {X : Type 0} → Option X → List X
 listed None = []
 listed (Some x) = x ∷ []
 
--- The state is one of this thread of the program.
+-- The state is one of this thread, and of the program as the thread names it.
 pub record IsOf (P : Program) (t : Thread) (s : State) : Type 0 where
   pub program : program_of s ≡ P
   pub flag : s.flag ≡ t.flag
@@ -129,8 +130,9 @@ pub record IsAt (P : Program) (t : Thread) (j : ℕ) (labels : List Sides) (w : 
   pub fits : (k : ℕ) (s : Sides) → slice_get labels k ≡ Some s → (z : Bool) → Fits (locks_in (blocks_at t.lines k)) (most_at j) (on z s)
   pub keeps : Keeps P t j labels w
 
+-- The program is as the thread names it.
 pub record Reaches (P : Program) (t : Thread) (j : ℕ) (w : Walk) : Type 0 where
-  pub made : IsProgram P
+  pub made : IsView P
   pub thread : IsThread P t
   pub labels : List Sides
   pub at : IsAt P t j labels w

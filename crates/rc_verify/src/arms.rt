@@ -10,7 +10,7 @@ ghost use Rattle.rc_rules.specs.declared.mode.Peeked.TheVariants as peeks;
 ghost use Rattle.rc_verify.specs.Arms as spec;
 ghost use Rattle.rc_verify.specs.declared.arms.Arms as parts;
 
-use rc_lang::program::Program;
+use rc_lang::view::View;
 use rc_rules::cause::Cause;
 use rc_rules::state::State;
 use std::marker::Model;
@@ -43,13 +43,13 @@ impl<'a> Model for Peek<'a> {
 
 impl<'a> Peek<'a> {
     /// None is open.
-    pub fn none(program: &'a Program) -> Peek<'a>
+    pub fn none(view: View<'a>) -> Peek<'a>
         ensures { result ≡ None }
     {
         Peek {
             arms: Arms {
-                before: State::dead(program, None),
-                ends: State::dead(program, None),
+                before: State::dead(view, None),
+                ends: State::dead(view, None),
                 agree: true,
             },
             is_open: false,

@@ -7,6 +7,7 @@ ghost use Rattle.rc_verify.specs.Walk.{IsOf};
 
 use crate::walk::{Walk, pass};
 use rc_lang::program::{Program, Thread};
+use rc_lang::view::View;
 use rc_rules::cause::Cause;
 use rc_rules::state::State;
 use std::marker::Model;
@@ -16,7 +17,7 @@ use std::marker::Model;
 #[derive(Drop)]
 pub struct Labels<'a> {
     walk: Walk<'a>,
-    program: &'a Program,
+    view: View<'a>,
     part: &'a Thread,
     place: usize,
     /// Why the line is refused, where that was found.
@@ -29,15 +30,17 @@ impl<'a> Model for Labels<'a> {
     ghost Value = { spec.Labels };
 
     ghost use Rattle.rc_lang.specs.Parts.{view_thread};
+    ghost use Rattle.rc_lang.specs.Views.{seen};
 
     ghost view = { λ l. record {
-      program = l.program.now;
+      program = l.view.program.now;
+      number = l.view.thread;
       thread = view_thread l.part.now;
       place = l.place;
       state = l.walk.state;
     } };
 
-    ghost invariant = { λ l. spec.IsAtLine l.program.now (view_thread l.part.now) l.place l.walk l.refused };
+    ghost invariant = { λ l. spec.IsAtLine (seen l.view) (view_thread l.part.now) l.place l.walk l.refused };
 }
 
 impl<'a> Labels<'a> {
@@ -46,13 +49,14 @@ impl<'a> Labels<'a> {
     pub fn new(program: &'a Program, thread: u32) -> Labels<'a>
         requires { thread < length program.now.threads }
         ensures of { result.program ≡ program.now }
+        ensures number { result.number ≡ thread }
         ensures thread { slice_get program.now.threads thread ≡ Some result.thread }
         ensures place { result.place ≡ 0 }
     {
         let part = &program.threads()[thread as usize];
         Labels {
             walk: Walk::new(program, thread),
-            program,
+            view: program.view(thread as usize),
             part,
             place: 0,
             refused: None,
@@ -64,11 +68,14 @@ impl<'a> Labels<'a> {
     pub fn begin(&mut self, thread: u32)
         requires { thread < length self.old.program.threads }
         ensures of { self.new.program ≡ self.old.program }
+        ensures number { self.new.number ≡ thread }
         ensures thread { slice_get self.old.program.threads thread ≡ Some self.new.thread }
         ensures place { self.new.place ≡ 0 }
     {
-        let part = &self.program.threads()[thread as usize];
-        self.walk.begin(self.program, thread);
+        let program = self.view.program;
+        let part = &program.threads()[thread as usize];
+        self.walk.begin(program, thread);
+        self.view = program.view(thread as usize);
         self.part = part;
         self.place = 0;
         self.refused = None;
@@ -77,7 +84,7 @@ impl<'a> Labels<'a> {
     /// What is known before the line: of all labellings that are good at the lines before it, the strongest labels there.
     pub fn state(&self) -> &State<'a>
         ensures value { result.now ≡ self.now.state }
-        ensures of { IsOf self.now.program self.now.thread self.now.state }
+        ensures of { IsOf (spec.named_in self.now) self.now.thread self.now.state }
         ensures strongest { spec.HasStrongest self.now }
     {
         &self.walk.state
@@ -94,7 +101,7 @@ impl<'a> Labels<'a> {
     pub fn program(&self) -> &'a Program
         ensures { result.now ≡ self.now.program }
     {
-        self.program
+        self.view.program
     }
 
     /// The thread whose lines these are.
@@ -108,6 +115,7 @@ impl<'a> Labels<'a> {
     /// often as it is called.
     pub fn next(&mut self) -> Result<bool, Cause>
         ensures of { self.new.program ≡ self.old.program }
+        ensures number { self.new.number ≡ self.old.number }
         ensures thread { self.new.thread ≡ self.old.thread }
         ensures goes { spec.Goes self.old self.new result }
     {

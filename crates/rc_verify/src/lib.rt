@@ -1,7 +1,8 @@
 //! The verifier: one walk over a program's text.
 //!
-//! It answers Ok exactly where every header meets its premises and every thread has a labelling that is good at every
-//! line; else the least line up to which there is none, and the least premise there that no labelling meets.
+//! It answers Ok exactly where the lines of pools and every header meet their premises and every thread has a labelling
+//! that is good at every line; else the least line up to which there is none, and the least premise there that no
+//! labelling meets.
 #![tactic(auto)]
 
 mod arms;

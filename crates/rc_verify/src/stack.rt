@@ -49,7 +49,7 @@ fn write_dead<'a>(room: &mut Option<State<'a>>, state: &State<'a>)
 {
     match room {
         Some(kept) => kept.die_as(state),
-        None => *room = Some(State::dead(state.program(), state.flag())),
+        None => *room = Some(State::dead(state.view(), state.flag())),
     }
 }
 
@@ -92,7 +92,7 @@ impl<'a> StateStack<'a> {
         if self.count < self.rooms.len() {
             write_dead(&mut self.rooms.as_mut_slice()[self.count], state);
         } else {
-            let dead = State::dead(state.program(), state.flag());
+            let dead = State::dead(state.view(), state.flag());
             self.rooms.push(Some(dead));
         }
         self.count += 1;

@@ -4,6 +4,7 @@ ghost use Rattle.std.specs.Prelude.{◌≡◌, ◌<◌, length, OnErr, Some};
 ghost use Rattle.rc_lang.specs.Parts.{view_thread};
 ghost use Rattle.rc_lang.specs.Program as programs;
 ghost use Rattle.rc_lang.specs.Program.{IsProgram};
+ghost use Rattle.rc_lang.specs.Views.{view_of};
 ghost use Rattle.rc_verify.specs.Answer.{OnThread};
 ghost use Rattle.rc_verify.specs.Walk as spec;
 
@@ -36,11 +37,11 @@ impl<'a> Walk<'a> {
     pub fn new(program: &'a Program, thread: u32) -> Walk<'a>
         requires made { IsProgram program.now }
         requires there { thread < length program.now.threads }
-        ensures { OnThread program.now thread (λ t. spec.Reaches program.now t 0 result) }
+        ensures { OnThread program.now thread (λ t. spec.Reaches (view_of program.now thread) t 0 result) }
     {
         Walk {
             state: State::first(program, thread),
-            peek: Peek::none(program),
+            peek: Peek::none(program.view(thread as usize)),
             branches: StateStack::new(),
             loops: StateStack::new(),
         }
@@ -50,7 +51,7 @@ impl<'a> Walk<'a> {
     pub fn begin(&mut self, program: &'a Program, thread: u32)
         requires made { IsProgram program.now }
         requires there { thread < length program.now.threads }
-        ensures { OnThread program.now thread (λ t. spec.Reaches program.now t 0 self.new) }
+        ensures { OnThread program.now thread (λ t. spec.Reaches (view_of program.now thread) t 0 self.new) }
     {
         self.state = State::first(program, thread);
         self.branches.clear();

@@ -4,7 +4,9 @@ use Rattle.std.proofs.lemmas.Bool.{or_parts, and_left, and_right, cases_lt}
 use Rattle.std.proofs.lemmas.Option.{same_Some, slice_get_within}
 use Rattle.rc_lang.specs.declared.lines.Line.{Line}
 use Rattle.rc_lang.specs.declared.lines.Stmt.{Stmt}
-use Rattle.rc_lang.specs.Program.{Thread, lines_in, lines_of}
+use Rattle.rc_lang.specs.Program.{IsProgram, Thread, lines_in, lines_of, rows_of}
+use Rattle.rc_lang.specs.Rows.{read_line}
+use Rattle.rc_lang.proofs.Reading.{line_alone}
 use Rattle.rc_world.specs.declared.event.Item.{Item}
 use Rattle.rc_world.specs.declared.event.Item.TheVariants.{Thread as OfThread, Kernel}
 use Rattle.rc_world.specs.declared.fault.FaultKind.{FaultKind}
@@ -94,12 +96,12 @@ pub harmless_next : (w : World) (i : ℕ) (line : Line) → Some line ≡ next_l
 harmless_next w i line n e kind l m = subst (λ (x : Line). has_fault w kind i x.stmt ≡ false) (same_Some line l (n ∙ m)) (harmless w i line.stmt e kind)
 
 -- the line at the place of the thread
-place_at : (w : World) (i p : ℕ) (t : Option Standing) → Some p ≡ option_map (λ (s : Standing). s.place) t → slice_get (lines_of w.program i) p ≡ next_at w.program i t
-place_at w i p None e = absurd (cc)
-place_at w i p (Some t) e = ap (slice_get (lines_of w.program i)) (same_Some p t.place e)
+place_at : (w : World) → IsProgram w.program → (i p : ℕ) (t : Option Standing) → Some p ≡ option_map (λ (s : Standing). s.place) t → slice_get (lines_of w.program i) p ≡ next_at w.program i t
+place_at w made i p None e = absurd (cc)
+place_at w made i p (Some t) e = ap (slice_get (lines_of w.program i)) (same_Some p t.place e) ∙ sym (line_alone w.program made i t.variables t.place)
 
-pub line_at_place : (w : World) (i p : ℕ) → Some p ≡ option_map (λ (s : Standing). s.place) (slice_get w.controls.threads i) → slice_get (lines_of w.program i) p ≡ line_of w i
-line_at_place w i p = place_at w i p (slice_get w.controls.threads i)
+pub line_at_place : (w : World) → IsProgram w.program → (i p : ℕ) → Some p ≡ option_map (λ (s : Standing). s.place) (slice_get w.controls.threads i) → slice_get (lines_of w.program i) p ≡ line_of w i
+line_at_place w made i p = place_at w made i p (slice_get w.controls.threads i)
 
 pub harmless_past : (w : World) (i : ℕ) → line_of w i ≡ None → IsHarmless w i
 harmless_past w i n kind l e = let none : Some l ≡ None = sym e ∙ n in absurd (cc)
@@ -121,7 +123,7 @@ harmless_more w n h here i lt = elim (cases_lt i n) [
 
 no_line : (w : World) (i : ℕ) (t : Option Standing) → slice_get w.program.threads i ≡ None → next_at w.program i t ≡ None
 no_line w i None e = refl
-no_line w i (Some t) e = ap (λ thread. slice_get (lines_in thread) t.place) e
+no_line w i (Some t) e = ap (λ thread. option_map (read_line w.program (rows_of w.program i) t.variables) (slice_get (lines_in thread) t.place)) e
 
 declared_within : (w : World) (i : ℕ) (l : Line) → line_of w i ≡ Some l → i < length w.program.threads
 declared_within w i l e = go (slice_get w.program.threads i) refl

@@ -12,7 +12,7 @@ use Rattle.rc_lang.specs.declared.lines.Test.{Test}
 use Rattle.rc_lang.specs.declared.lines.Test.TheVariants.{Compare, ReadyZero, SpaceAtLeast, Take, Any}
 use Rattle.rc_lang.specs.declared.request.Kind.TheVariants.{Fsync, Read, Write}
 use Rattle.rc_lang.specs.declared.request.Request.{Request}
-use Rattle.rc_lang.specs.Program.{IsResolvedOp, Items, Program, bytes_at, items_at, line_at, lines_of, lists_of, stmt_of}
+use Rattle.rc_lang.specs.Program.{IsResolvedOp, Items, Program, bytes_at, items_at, line_at, lines_of, lists_of, stmt_of, Rows, rows_of}
 use Rattle.rc_lang.specs.Requests.{may_complete}
 use Rattle.rc_lang.proofs.Rests.{may_rest}
 use Rattle.rc_split.specs.Pools.{all_pooled, overfills, put_into}
@@ -27,7 +27,7 @@ use Rattle.rc_world.specs.declared.fault.FaultKind.{FaultKind}
 use Rattle.rc_world.specs.declared.fault.FaultKind.TheVariants.{WriteOfPending, ReadOfFilling, RingFull, UnknownReap, NoLock, RawEntry, OutOfBuffer, DoublePut}
 use Rattle.rc_world.specs.declared.world.Slot.{Slot}
 use Rattle.rc_world.specs.declared.world.Slot.TheVariants.{Closed, Vacant, Prepared}
-use Rattle.rc_world.specs.Controls.{Move, Standing, acts, are_free, as_event, branches, gets_data, goes_on, loads, low_byte, made, moved, number_of_event, peeks, reaps, takes_locks, variable}
+use Rattle.rc_world.specs.Controls.{Move, Standing, acts, are_free, as_event, branches, gets_data, goes_on, loads, low_byte, made, moved, number_of_event, peeks, reaps, takes_locks, variable, list_at, list_here, next_at, variables_in}
 use Rattle.rc_world.specs.Faults.{clashes, fault_of, front_is_known, has_buffer, has_cq, has_fault, has_sq, is_closed, is_cq_call, is_filling, is_named, is_prepared, is_sq_call, is_vacant, may_put, names, reads_into}
 use Rattle.rc_world.specs.Harm.{IsHarmless}
 use Rattle.rc_world.specs.Laws.{CompletesFreely, GoesOn, NoHiddenHarm, IsAtEnd}
@@ -39,7 +39,9 @@ use Rattle.rc_world.proofs.LawLists.{get_at, get_past}
 use Rattle.rc_world.proofs.Lists.{get_none, get_of}
 use Rattle.rc_world.proofs.Memory.{read_has_buffer}
 use Rattle.rc_world.proofs.LawRuns.{IsSound, run_sound, sound_at_start}
-use Rattle.rc_world.proofs.LawSteps.{StandsAt, next_of_standing, step_is}
+use Rattle.rc_world.proofs.LawSteps.{StandsAt, next_of_standing, step_is, stands_written}
+use Rattle.rc_lang.proofs.Reading.{nothing_at, stmt_alone}
+use Rattle.rc_lang.specs.Rows.{list_read_at, read_stmt}
 
 -- ---- tests
 
@@ -203,10 +205,11 @@ module _ (w : World) (i : ℕ) (t : Standing) (r : ℤ) where
   put_held (Some n) k f = refl
 
   -- a put that isn't one too many
-  can_put : (pool : Option ℕ) (k : ℕ) → HasNoFault w i (Put pool k) → CanDo w i t r (Put pool k)
-  can_put pool k f =
-      let items : Items = items_at (lists_of w.program i) k in
-      let room = and_false (may_put w i pool) (overfills w.program (all_pooled w.program w.controls.pools) items) (f DoublePut) (put_held pool k f) in
+  can_put : slice_get w.controls.threads i ≡ Some t → (pool : Option ℕ) (k : ℕ) → HasNoFault w i (Put pool k) → CanDo w i t r (Put pool k)
+  can_put c pool k f =
+      let items : Items = list_at w.program i t k in
+      let here : list_here w.program w.controls i k ≡ items = ap (λ x. list_read_at w.program i (variables_in x) k) c in
+      let room = ap (overfills w.program (all_pooled w.program w.controls.pools)) (sym here) ∙ and_false (may_put w i pool) (overfills w.program (all_pooled w.program w.controls.pools) (list_here w.program w.controls i k)) (f DoublePut) (put_held pool k f) in
       record {
         rings = w;
         move = record (goes_on w.controls t ItemsPut) { pools = put_into w.program pool items w.controls.pools };
@@ -234,6 +237,11 @@ module _ (w : World) (i : ℕ) (t : Standing) (r : ℤ) where
 
 -- ---- what each thread has next
 
+-- a statement that is read is an event where the one that stands there is
+rests_read : (P : Program) (rows : Rows) (vars : List ℤ) (s : Stmt) → may_rest (Some (read_stmt P rows vars s)) ≡ may_rest (Some s)
+rests_read P rows vars (Do op) = refl
+rests_read P rows vars _ = refl
+
 module _ (w : World) (kept : IsKept w) (i : ℕ) (harmless : IsHarmless w i) (t : Standing) (c : slice_get w.controls.threads i ≡ Some t) where
   no_fault : (l : Line) → StandsAt w i t l → HasNoFault w i l.stmt
   no_fault l s kind = harmless kind l (next_of_standing w i t l s)
@@ -243,7 +251,7 @@ module _ (w : World) (kept : IsKept w) (i : ℕ) (harmless : IsHarmless w i) (t 
 
   op_goes : (l : Line) → StandsAt w i t l → (op : Op) → l.stmt ≡ Do op → GoesOn w i
   op_goes l a op e =
-      let h = resolved_in w.program kept.made i t.place (Do op) (ap stmt_of a.line ∙ ap Some e) in
+      let h = resolved_in w.program kept.made i t.place (Do op) (stmt_alone w.program kept.made i t.variables t.place l a.line ∙ ap Some e) in
       ready l a (Do op) e (λ r u. can_do w i t r kept.memory h.0 op h.3 (subst (λ x. HasNoFault w i x) e (no_fault l a)) u)
 
   lock_goes : (l : Line) → StandsAt w i t l → (wanted : Locks) → l.stmt ≡ Lock wanted → (free : Bool) → are_free wanted w.controls.holders ≡ free → GoesOn w i
@@ -253,7 +261,7 @@ module _ (w : World) (kept : IsKept w) (i : ℕ) (harmless : IsHarmless w i) (t 
   -- at a line that is an event
   pub line_goes : (l : Line) → StandsAt w i t l → (s : Stmt) → l.stmt ≡ s → may_rest (Some s) ≡ true → GoesOn w i
   line_goes l a (Do op) e h = op_goes l a op e
-  line_goes l a (Put pool k) e h = ready l a (Put pool k) e (λ r u. can_put w i t r pool k (subst (λ x. HasNoFault w i x) e (no_fault l a)))
+  line_goes l a (Put pool k) e h = ready l a (Put pool k) e (λ r u. can_put w i t r c pool k (subst (λ x. HasNoFault w i x) e (no_fault l a)))
   line_goes l a (Lock wanted) e h = lock_goes l a wanted e (are_free wanted w.controls.holders) refl
   line_goes l a (EndLock o released) e h = ready l a (EndLock o released) e (λ r u. record { rings = w; move = _; in_the_rings = refl; acted = refl })
   line_goes l a (If test) e h = ready l a (If test) e (λ r u. can_decide w i t r test u)
@@ -266,7 +274,9 @@ module _ (w : World) (kept : IsKept w) (i : ℕ) (harmless : IsHarmless w i) (t 
 module _ (program : Program) (w : World) (safe : fault_of w ≡ None) (sound : IsSound program w) (i : ℕ) (t : Standing) (c : slice_get w.controls.threads i ≡ Some t) where
   -- no thread of a run is at a line that is no event
   at_rest : (l : Line) → StandsAt w i t l → may_rest (Some l.stmt) ≡ true
-  at_rest l a = sym (ap may_rest (ap stmt_of a.line)) ∙ (sound.rest.each i t c).rests
+  at_rest l a =
+      let v = stands_written w i t l a in
+      ap (λ s. may_rest (Some s)) v.read ∙ rests_read w.program (rows_of w.program i) t.variables v.written.stmt ∙ sym (ap may_rest v.says) ∙ (sound.rest.each i t c).rests
 
   at_the_end : line_at w.program i t.place ≡ None → IsAtEnd w i
   at_the_end e =
@@ -274,15 +284,15 @@ module _ (program : Program) (w : World) (safe : fault_of w ≡ None) (sound : I
       let p : length (lines_of w.program i) ≤ t.place = get_past (lines_of w.program i) t.place e in
       (t, c, omega arith)
 
-  thread_goes : (l : Option Line) → line_at w.program i t.place ≡ l → GoesOn w i
-  thread_goes None e = inl (at_the_end e)
+  thread_goes : (l : Option Line) → next_at w.program i (Some t) ≡ l → GoesOn w i
+  thread_goes None e = inl (at_the_end (nothing_at w.program i t.variables t.place e))
   thread_goes (Some l) e = let a : StandsAt w i t l = record { standing = c; line = e } in line_goes w sound.kept i (harmless_in w safe i) t c l a l.stmt refl (at_rest l a)
 
 pub threads_go : (program : Program) (w : World) → fault_of w ≡ None → IsSound program w → (i : ℕ) → i < length program.threads → GoesOn w i
 threads_go program w safe sound i lt =
     let many : length w.controls.threads ≡ length program.threads = sound.rest.as_many ∙ ap (λ (p : Program). length p.threads) sound.same in
     let t = get_at w.controls.threads i (omega arith) in
-    thread_goes program w safe sound i t.0 t.1 (line_at w.program i t.0.place) refl
+    thread_goes program w safe sound i t.0 t.1 (next_at w.program i (Some t.0)) refl
 
 -- ---- the kernel
 

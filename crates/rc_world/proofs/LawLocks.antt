@@ -17,7 +17,7 @@ use Rattle.rc_lang.specs.declared.lines.Test.{Test}
 use Rattle.rc_lang.specs.declared.lines.Test.TheVariants.{Compare, ReadyZero, SpaceAtLeast, Take, Any}
 use Rattle.rc_lang.specs.Locks.{with_locks, without_locks}
 use Rattle.rc_lang.specs.Nesting.{blocks_at, locks_in}
-use Rattle.rc_lang.specs.Program.{HasArms, IsProgram, Items, Program, end_at, ends_in, items_at, lines_of, lists_of, stmt_at, stmt_of}
+use Rattle.rc_lang.specs.Program.{HasArms, IsProgram, Items, Program, end_at, ends_in, items_at, lines_of, lists_of, stmt_at, stmt_of, rows_of}
 use Rattle.rc_lang.proofs.Along.{locks_next, locks_pushed, same_locks}
 use Rattle.rc_lang.proofs.Closing.{closes_arm, closes_lock, leaves_loop, turns}
 use Rattle.rc_lang.proofs.Jumps.{IsLaid, arm_leads, back_leads, break_leads, case_lands, else_leads, false_leads, nothing_lands, other_lands}
@@ -30,16 +30,17 @@ use Rattle.rc_world.specs.declared.controls.Answer.TheVariants.{Plain, Number, B
 use Rattle.rc_world.specs.declared.controls.Holders.{Holders}
 use Rattle.rc_world.specs.declared.event.Action.TheVariants.{VariableSet, Stored, Filled, Printed, EntryOpened, ReadPrepared, WritePrepared, FsyncPrepared, NopPrepared, OtherPrepared, DataSet, Looped, ItemsPut}
 use Rattle.rc_world.specs.declared.event.Event.{Event}
-use Rattle.rc_world.specs.Controls.{Controls, Move, Standing, acts, are_free, arm_for, arms_of, assigns, branches, breaks, decides, does, first_place, gets_data, goes_on, held_by, hop_of, is_case, is_choice, is_free, is_none_arm, is_other, loads, low_byte, none_arm, operand_value, or_from, peeks, plainly, puts_items, reaps, releases_locks, rest_at, returns_to, sets_variable, settled, submits, takes_locks, tries_to_take, variable, wrapped}
+use Rattle.rc_world.specs.Controls.{Controls, Move, Standing, acts, are_free, arm_for, arms_of, assigns, branches, breaks, decides, does, first_place, gets_data, goes_on, held_by, hop_of, is_case, is_choice, is_free, is_none_arm, is_other, loads, low_byte, none_arm, operand_value, or_from, peeks, plainly, puts_items, reaps, releases_locks, rest_at, returns_to, sets_variable, settled, submits, takes_locks, tries_to_take, variable, wrapped, list_at}
 use Rattle.rc_world.specs.Faults.{is_holder}
 use Rattle.rc_world.specs.Machine.{World, start_world, stmt_answer}
 use Rattle.rc_world.specs.Runs.{IsRun, IsStep}
 use Rattle.rc_world.proofs.LawLists.{get_in_range}
 use Rattle.rc_world.proofs.LawPlaces.{arm_found, arms, op_place, place_passes, put_place}
 use Rattle.rc_world.proofs.LawRuns.{IsSound, after_step, start_of}
-use Rattle.rc_world.proofs.LawSteps.{Completed, Stepped, completed, stepped}
+use Rattle.rc_world.proofs.LawSteps.{Completed, Stepped, completed, stepped, stands_written}
 use Rattle.rc_world.proofs.Lists.{get_set}
-use Rattle.rc_world.proofs.RingSteps.{rings_same, small_stmt}
+use Rattle.rc_world.proofs.RingSteps.{rings_same, small_stmt, small_read}
+use Rattle.rc_lang.specs.Rows.{read_op, read_stmt}
 
 -- the locks that are open at a place of a thread, and those that a thread holds
 abbrev pub locks_at : Program → ℕ → ℕ → Locks
@@ -318,7 +319,7 @@ module _ (P : Program) (is : IsProgram P) (i : ℕ) where
         decide_turns (SpaceAtLeast k) (Number n) e = branch_turns (int_le (pos k) n) (same_move _ e)
         decide_turns (SpaceAtLeast k) _ e = absurd (cc)
         decide_turns (Take pool k) b e =
-            let items : Items = items_at (lists_of P i) k in
+            let items : Items = list_at P i t k in
             take_turns (taken_from P pool items c.pools) (includes P (pool_of c.pools pool) items) (plain_move (tries_to_take P c i t pool items) b e)
         decide_turns Any (Number n) e = choice_turns (is_choice n) (int_eq n (pos 1)) e
         decide_turns Any _ e = absurd (cc)
@@ -329,10 +330,12 @@ module _ (P : Program) (is : IsProgram P) (i : ℕ) where
       peek_turns x h (Number n) e = absurd (cc)
       peek_turns x h (Byte n) e = absurd (cc)
 
-      act_turns : (s : Stmt) → stmt_at (lines_of P i) t.place ≡ Some s → acts P c i t s a ≡ Some m → Done
-      act_turns (Do op) h e = by_parts (t.place + 1) (op_place P is i c t a m op e) (op_keeps op e) (locks_next (lines_of P i) laid.each t.place (Do op) h ∙ fits)
+      act_turns : (s : Stmt) → stmt_at (lines_of P i) t.place ≡ Some s → acts P c i t (read_stmt P (rows_of P i) t.variables s) a ≡ Some m → Done
+      act_turns (Do op) h e =
+          let read : Op = read_op P (rows_of P i) t.variables op in
+          by_parts (t.place + 1) (op_place P is i c t a m read e) (op_keeps read e) (locks_next (lines_of P i) laid.each t.place (Do op) h ∙ fits)
       act_turns (Put pool k) h e =
-          let items : Items = items_at (lists_of P i) k in
+          let items : Items = list_at P i t k in
           by_parts (t.place + 1) (put_place P is i c t a m pool items e) (put_keeps pool items e) (locks_next (lines_of P i) laid.each t.place (Put pool k) h ∙ fits)
       act_turns (Lock wanted) h e = lock_turns wanted h e
       act_turns (EndLock o released) h e = release_turns o released h e
@@ -362,9 +365,11 @@ module _ (program : Program) (w : World) (h : IsSound program w) (f : Fits w) wh
   after_thread : (i : ℕ) (r : ℤ) (after : World) → Stepped w i r after → Fits after
   after_thread i r after s =
       let P = w.program in
-      let here = ap stmt_of s.stands.line in
-      let same = rings_same w h.kept s.standing r s.line.stmt (small_stmt P h.kept.made i s.standing.place s.line.stmt here) s.rings s.in_the_rings in
-      let x = act_turns P h.kept.made i w.controls s.standing (stmt_answer w r s.line.stmt) s.move (f.each i s.standing s.stands.standing) s.line.stmt here s.acted in
+      let a = stmt_answer w r s.line.stmt in
+      let v = stands_written w i s.standing s.line s.stands in
+      let same = rings_same w h.kept s.standing r s.line.stmt (small_read P h.kept.made i s.standing.variables s.standing.place s.line s.stands.line) s.rings s.in_the_rings in
+      let acted = subst (λ (x : Stmt). acts P w.controls i s.standing x a ≡ Some s.move) v.read s.acted in
+      let x = act_turns P h.kept.made i w.controls s.standing a s.move (f.each i s.standing s.stands.standing) v.written.stmt v.says acted in
       let t : Standing = record { place = rest_at P i s.move.place; variables = s.move.variables } in
       let lt : i < length w.controls.threads = slice_get_within w.controls.threads i s.standing s.stands.standing in
       let many : length (slice_set w.controls.threads i t) ≡ length w.controls.threads = length-set w.controls.threads i t in

@@ -15,7 +15,8 @@ use Rattle.rc_lang.specs.declared.lines.Stmt.{Stmt}
 use Rattle.rc_lang.specs.declared.lines.Stmt.TheVariants.{Do, Put, Lock, EndLock, If, Else, EndIf, Peek, Case, Other, Nothing, EndArm, Loop, EndLoop, Break}
 use Rattle.rc_lang.specs.declared.lines.Test.{Test}
 use Rattle.rc_lang.specs.declared.lines.Test.TheVariants.{Compare, ReadyZero, SpaceAtLeast, Take, Any}
-use Rattle.rc_lang.specs.Program.{HasArms, IsProgram, Items, Program, end_at, ends_in, items_at, lines_of, lists_of, stmt_at, stmt_of}
+use Rattle.rc_lang.specs.Program.{HasArms, IsProgram, Items, Program, end_at, ends_in, lines_of, rows_of, stmt_at, stmt_of}
+use Rattle.rc_lang.specs.Rows.{read_op, read_stmt}
 use Rattle.rc_lang.proofs.Jumps.{IsLaid, IsOpen, back_open, break_open, false_open, leads_open, open_behind}
 use Rattle.rc_lang.proofs.Lookups.{line_with}
 use Rattle.rc_lang.proofs.Rests.{IsRest, or_on, passed_to, same_settled, settled as settles_at, settles, start_rests}
@@ -24,7 +25,7 @@ use Rattle.rc_split.specs.Pools.{Pools, all_pooled, includes, overfills, pool_of
 use Rattle.rc_world.specs.declared.controls.Answer.{Answer}
 use Rattle.rc_world.specs.declared.controls.Answer.TheVariants.{Plain, Number, Byte, Front}
 use Rattle.rc_world.specs.declared.event.Action.TheVariants.{VariableSet, Stored, Filled, Printed, EntryOpened, ReadPrepared, WritePrepared, FsyncPrepared, NopPrepared, OtherPrepared, DataSet, Looped, ItemsPut}
-use Rattle.rc_world.specs.Controls.{Controls, Move, Standing, acts, are_free, arm_for, arms_of, assigns, branches, breaks, decides, does, first_place, gets_data, goes_on, hop_of, is_case, is_choice, is_none_arm, is_other, loads, locks, low_byte, none_arm, operand_value, or_from, peeks, plainly, puts_items, reaps, releases_locks, rest_at, returns_to, sets_variable, settled, submits, takes_locks, tries_to_take, variable, wrapped}
+use Rattle.rc_world.specs.Controls.{Controls, Move, Standing, acts, are_free, arm_for, arms_of, assigns, branches, breaks, decides, does, first_place, gets_data, goes_on, hop_of, is_case, is_choice, is_none_arm, is_other, list_at, loads, locks, low_byte, none_arm, operand_value, or_from, peeks, plainly, puts_items, reaps, releases_locks, rest_at, returns_to, sets_variable, settled, submits, takes_locks, tries_to_take, variable, wrapped}
 use Rattle.rc_world.proofs.Laid.{laid}
 use Rattle.rc_world.proofs.LawLists.{get_in_range, range_has}
 
@@ -206,7 +207,7 @@ module _ (program : Program) (is : IsProgram program) (i : ℕ) where
       decide_open (SpaceAtLeast k) (Number n) e = branch_open (int_le (pos k) n) (same_place _ e)
       decide_open (SpaceAtLeast k) _ e = absurd (cc)
       decide_open (Take pool k) b e =
-          let items = items_at (lists_of program i) k in
+          let items = list_at program i t k in
           take_open (taken_from program pool items c.pools) (includes program (pool_of c.pools pool) items) (plain_place (tries_to_take program c i t pool items) b e)
       decide_open Any (Number n) e = choice_open (is_choice n) (int_eq n (pos 1)) e
       decide_open Any _ e = absurd (cc)
@@ -232,9 +233,9 @@ module _ (program : Program) (is : IsProgram program) (i : ℕ) where
     put_place pool items e = room_place (overfills program (all_pooled program c.pools) items) (record (goes_on c t ItemsPut) { pools = put_into program pool items c.pools }) e
 
     -- What a statement does leads to a place where the thread may go.
-    pub acts_open : (s : Stmt) → stmt_at (lines_of program i) t.place ≡ Some s → acts program c i t s a ≡ Some m → IsOpen (lines_of program i) m.place
-    acts_open (Do op) h e = behind (Do op) h refl (op_place op e)
-    acts_open (Put pool k) h e = behind (Put pool k) h refl (put_place pool (items_at (lists_of program i) k) e)
+    pub acts_open : (s : Stmt) → stmt_at (lines_of program i) t.place ≡ Some s → acts program c i t (read_stmt program (rows_of program i) t.variables s) a ≡ Some m → IsOpen (lines_of program i) m.place
+    acts_open (Do op) h e = behind (Do op) h refl (op_place (read_op program (rows_of program i) t.variables op) e)
+    acts_open (Put pool k) h e = behind (Put pool k) h refl (put_place pool (list_at program i t k) e)
     acts_open (Lock wanted) h e = behind (Lock wanted) h refl (lock_place wanted e)
     acts_open (EndLock o released) h e = behind (EndLock o released) h refl (plain_place (releases_locks c t released) a e)
     acts_open (If test) h e = decide_open test h test a e

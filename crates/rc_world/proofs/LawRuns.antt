@@ -5,7 +5,7 @@ use Rattle.std.proofs.lemmas.Option.{same_Some}
 use Rattle.rc_lang.specs.Program.{IsProgram, Program, Thread, lines_of, stmt_of}
 use Rattle.rc_lang.proofs.Rests.{IsRest}
 use Rattle.rc_world.specs.declared.event.Event.{Event}
-use Rattle.rc_world.specs.Controls.{Standing, rest_at}
+use Rattle.rc_world.specs.Controls.{Standing, rest_at, acts}
 use Rattle.rc_world.specs.Faults.{clashes}
 use Rattle.rc_world.specs.Kept.{IsKept}
 use Rattle.rc_world.specs.Machine.{World, start_world, stmt_answer}
@@ -13,10 +13,11 @@ use Rattle.rc_world.specs.Runs.{IsRun, IsStep}
 use Rattle.rc_world.proofs.Keeping.{memory_given}
 use Rattle.rc_world.proofs.LawFaultless.{calm_in}
 use Rattle.rc_world.proofs.Lists.{get_set}
-use Rattle.rc_world.proofs.RingSteps.{rings_same, small_stmt}
+use Rattle.rc_world.proofs.RingSteps.{rings_same, small_stmt, small_read}
 use Rattle.rc_world.proofs.Starting.{kept_start}
 use Rattle.rc_world.proofs.LawPlaces.{acts_open, rests_at_start, rests_from}
-use Rattle.rc_world.proofs.LawSteps.{Completed, Stepped, completed, stepped}
+use Rattle.rc_world.proofs.LawSteps.{Completed, Stepped, completed, stepped, stands_written}
+use Rattle.rc_lang.specs.declared.lines.Stmt.{Stmt}
 
 -- Each thread rests.
 pub record AllRest (program : Program) (threads : List Standing) : Type 0 where
@@ -41,9 +42,11 @@ one_rests program threads i t h r = record {
 
 after_thread : (program : Program) (w after : World) (i : ℕ) (r : ℤ) → IsSound program w → Stepped w i r after → IsSound program after
 after_thread program w after i r h s =
-    let here = ap stmt_of s.stands.line in
-    let k = rings_same w h.kept s.standing r s.line.stmt (small_stmt w.program h.kept.made i s.standing.place s.line.stmt here) s.rings s.in_the_rings in
-    let o = acts_open w.program h.kept.made i w.controls s.standing (stmt_answer w r s.line.stmt) s.move s.line.stmt here s.acted in
+    let a = stmt_answer w r s.line.stmt in
+    let v = stands_written w i s.standing s.line s.stands in
+    let k = rings_same w h.kept s.standing r s.line.stmt (small_read w.program h.kept.made i s.standing.variables s.standing.place s.line s.stands.line) s.rings s.in_the_rings in
+    let acted = subst (λ (x : Stmt). acts w.program w.controls i s.standing x a ≡ Some s.move) v.read s.acted in
+    let o = acts_open w.program h.kept.made i w.controls s.standing a s.move v.written.stmt v.says acted in
     let t : Standing = record { place = rest_at w.program i s.move.place; variables = s.move.variables } in
     let rest = one_rests w.program w.controls.threads i t h.rest (rests_from w.program h.kept.made i s.move.place o) in
     subst (λ x. IsSound program x) s.same (record {

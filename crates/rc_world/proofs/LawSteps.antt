@@ -1,19 +1,29 @@
 -- What a step is made of.
-use Rattle.std.proofs.Common.{◌≡◌, ℕ, Bool, true, false, if◌then◌else◌, List, length, nat_eq, ◌&&◌, Option, Some, None, refl, sym, ap, ◌∙◌, slice_get, ℤ}
+use Rattle.std.proofs.Common.{◌≡◌, ℕ, Bool, true, false, if◌then◌else◌, List, length, nat_eq, ◌&&◌, Option, Some, None, refl, sym, ap, ◌∙◌, slice_get, ℤ, ◌≤◌, option_map}
 use Rattle.std.proofs.lemmas.Bool.{eqb-true, and_parts}
-use Rattle.std.proofs.lemmas.Option.{some_pair_parts}
+use Rattle.std.proofs.lemmas.Option.{some_pair_parts, slice_get_past}
 use Rattle.rc_lang.specs.declared.lines.Line.{Line}
-use Rattle.rc_lang.specs.Program.{line_at}
 use Rattle.rc_lang.specs.Requests.{may_complete}
+use Rattle.rc_lang.proofs.Reading.{IsReadOf, written_at}
 use Rattle.rc_world.specs.declared.event.Event.{Event}
 use Rattle.rc_world.specs.Controls.{Move, Standing, acts, as_event, made, moved, next_at, next_line}
 use Rattle.rc_world.specs.Machine.{Pending, World, bytes_brought, completes, given_back, in_rings, kernel_event, kernel_step_of, stmt_answer, thread_step, thread_step_at, with_controls}
 use Rattle.rc_world.proofs.StepParts.{step_at}
+use Rattle.rc_lang.specs.Program.{Program, lines_of, rows_of}
+use Rattle.rc_lang.specs.Rows.{read_line}
 
--- The thread is at this line.
+-- The thread has this line next.
 pub record StandsAt (w : World) (i : ℕ) (t : Standing) (l : Line) : Type 0 where
   pub standing : slice_get w.controls.threads i ≡ Some t
-  pub line : line_at w.program i t.place ≡ Some l
+  pub line : next_at w.program i (Some t) ≡ Some l
+
+-- and which one stands there
+pub stands_written : (w : World) (i : ℕ) (t : Standing) (l : Line) → StandsAt w i t l → IsReadOf w.program i t.variables t.place l
+stands_written w i t l s = written_at w.program i t.variables t.place l s.line
+
+-- past its last line it has none
+pub past_lines : (P : Program) (i : ℕ) (t : Standing) → length (lines_of P i) ≤ t.place → next_at P i (Some t) ≡ None
+past_lines P i t le = ap (option_map (read_line P (rows_of P i) t.variables)) (slice_get_past (lines_of P i) t.place le)
 
 pub next_of_standing : (w : World) (i : ℕ) (t : Standing) (l : Line) → StandsAt w i t l → next_line w.program w.controls i ≡ Some l
 next_of_standing w i t l s = ap (next_at w.program i) s.standing ∙ s.line
@@ -43,7 +53,7 @@ module _ (w : World) (i : ℕ) (r : ℤ) (e : Event) (after : World) where
   at_line t l s (Some v) g None h q = absurd (cc)
   at_line t l s (Some v) g (Some m) h q = record { standing = t; line = l; stands = s; rings = v; in_the_rings = g; move = m; acted = h; same = (some_pair_parts _ _ _ _ q).1 }
 
-  at_place : (t : Standing) → slice_get w.controls.threads i ≡ Some t → (l : Option Line) → line_at w.program i t.place ≡ l → thread_step_at w i r (Some t) l ≡ Some (e, after) → Stepped w i r after
+  at_place : (t : Standing) → slice_get w.controls.threads i ≡ Some t → (l : Option Line) → next_at w.program i (Some t) ≡ l → thread_step_at w i r (Some t) l ≡ Some (e, after) → Stepped w i r after
   at_place t g None h q = absurd (cc)
   at_place t g (Some l) h q =
       let s : StandsAt w i t l = record { standing = g; line = h } in
@@ -52,7 +62,7 @@ module _ (w : World) (i : ℕ) (r : ℤ) (e : Event) (after : World) where
 
   at_thread : (t : Option Standing) → slice_get w.controls.threads i ≡ t → thread_step_at w i r t (next_at w.program i t) ≡ Some (e, after) → Stepped w i r after
   at_thread None g q = absurd (cc)
-  at_thread (Some t) g q = at_place t g (line_at w.program i t.place) refl q
+  at_thread (Some t) g q = at_place t g (next_at w.program i (Some t)) refl q
 
   pub stepped : thread_step w i r ≡ Some (e, after) → Stepped w i r after
   stepped q = at_thread (slice_get w.controls.threads i) refl q

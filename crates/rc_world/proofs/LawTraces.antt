@@ -9,7 +9,7 @@ use Rattle.rc_lang.specs.declared.lines.Locks.{Locks}
 use Rattle.rc_lang.specs.declared.lines.Op.TheVariants.{Submit, SubmitAndWait}
 use Rattle.rc_lang.specs.declared.lines.Stmt.TheVariants.{Do, If, Lock, Else, EndIf, Case, Other, Nothing, EndArm, EndPeek}
 use Rattle.rc_lang.specs.declared.lines.Test.TheVariants.{Any}
-use Rattle.rc_lang.specs.Program.{bytes_at, line_at, lines_of}
+use Rattle.rc_lang.specs.Program.{bytes_at, lines_of}
 use Rattle.rc_lang.specs.Requests.{may_complete}
 use Rattle.rc_world.specs.declared.controls.Next.TheVariants.{Ready, TakenLock}
 use Rattle.rc_world.specs.declared.event.Event.{Event}
@@ -30,6 +30,7 @@ use Rattle.rc_world.proofs.LawGoes.{completes_freely, line_goes}
 use Rattle.rc_lang.proofs.Rests.{may_rest}
 use Rattle.rc_world.proofs.Kernel.{count_within}
 use Rattle.rc_world.proofs.LawRuns.{IsSound, run_sound, sound_at_start}
+use Rattle.rc_world.proofs.LawSteps.{past_lines}
 
 -- ---- the items of threads
 
@@ -83,7 +84,7 @@ module _ (w : World) (kept : IsKept w) (i : ℕ) (harmless : IsHarmless w i) (ta
   Names r = (s : Event × World) × (thread_step w i r ≡ Some s)
 
   goes : GoesOn w i → Names (given_at w take (next_line w.program w.controls i))
-  goes (inl z) = absurd (not_ended (ap (next_at w.program i) z.1 ∙ slice_get_past (lines_of w.program i) z.0.place (let q : z.0.place ≡ length (lines_of w.program i) = z.2 in omega arith)))
+  goes (inl z) = absurd (not_ended (ap (next_at w.program i) z.1 ∙ past_lines w.program i z.0 (let q : z.0.place ≡ length (lines_of w.program i) = z.2 in omega arith)))
   goes (inr (inl z)) =
       let d : is_ready w take (next_of w.program w.controls i) ≡ false =
       ap (λ l. is_ready w take (next_by w.controls.holders l)) z.2 ∙ ap (λ s. is_ready w take (ready_or_taken w.controls.holders z.0 s)) z.3 ∙ ap (λ free. is_ready w take (if free then Ready z.0 else TakenLock z.1)) z.4 in
@@ -92,7 +93,7 @@ module _ (w : World) (kept : IsKept w) (i : ℕ) (harmless : IsHarmless w i) (ta
       let allowed = given_allowed w take z.0.stmt (ready_takes w take z.0 z.0.stmt (sym (ap (λ o. is_ready w take (next_by w.controls.holders o)) z.1) ∙ ready)) in
       subst Names (sym (ap (given_at w take) z.1)) (z.2 (given w take z.0.stmt) allowed)
 
-  at_line : (t : Standing) → slice_get w.controls.threads i ≡ Some t → (o : Option Line) → line_at w.program i t.place ≡ o → GoesOn w i
+  at_line : (t : Standing) → slice_get w.controls.threads i ≡ Some t → (o : Option Line) → next_at w.program i (Some t) ≡ o → GoesOn w i
   at_line t c None e = absurd (not_ended (ap (next_at w.program i) c ∙ e))
   at_line t c (Some l) e =
       let r = sym (ap (λ o. is_ready w take (next_by w.controls.holders o)) (ap (next_at w.program i) c ∙ e)) ∙ ready in
@@ -100,7 +101,7 @@ module _ (w : World) (kept : IsKept w) (i : ℕ) (harmless : IsHarmless w i) (ta
 
   at_thread : (o : Option Standing) → slice_get w.controls.threads i ≡ o → GoesOn w i
   at_thread None e = absurd (not_ended (ap (next_at w.program i) e))
-  at_thread (Some t) e = at_line t e (line_at w.program i t.place) refl
+  at_thread (Some t) e = at_line t e (next_at w.program i (Some t)) refl
 
   pub thread_steps : Names (given_at w take (next_line w.program w.controls i))
   thread_steps = goes (at_thread (slice_get w.controls.threads i) refl)

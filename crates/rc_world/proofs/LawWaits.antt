@@ -7,6 +7,7 @@ use Rattle.rc_lang.specs.Nesting.{blocks_at, breaks_order, locks_in}
 use Rattle.rc_lang.specs.Program.{IsProgram, Program, Thread, lines_in, lines_of, stmt_at, stmt_of}
 use Rattle.rc_lang.proofs.Fitting.{no_cq_in_cq, none_in_sq}
 use Rattle.rc_lang.proofs.Lookups.{nested_here}
+use Rattle.rc_lang.proofs.Reading.{stmt_alone}
 use Rattle.rc_lang.proofs.Rests.{laid_in}
 use Rattle.rc_world.specs.Controls.{Standing, are_free, is_free, next_at}
 use Rattle.rc_world.specs.Faults.{is_holder}
@@ -42,7 +43,7 @@ module _ (w : World) (made : IsProgram w.program) (f : Fits w) (j : ℕ) (t : St
 
   order : (z : WaitsForLock w j) → breaks_order (blocks_at (lines_of w.program j) t.place) z.1 ≡ false
   order z =
-      let here : stmt_at (lines_of w.program j) t.place ≡ Some (Lock z.1) = ap stmt_of (sym (ap (next_at w.program j) e) ∙ z.2) ∙ ap Some z.3 in
+      let here : stmt_at (lines_of w.program j) t.place ≡ Some (Lock z.1) = stmt_alone w.program made j t.variables t.place z.0 (sym (ap (next_at w.program j) e) ∙ z.2) ∙ ap Some z.3 in
       (nested_here (lines_of w.program j) (laid_in w.program made j).each t.place (Lock z.1) here).0
 
   -- who has the submission side wants no lock

@@ -1,7 +1,8 @@
 -- What a statement does to rings and buffers leaves the program and the controls, and what a world keeps.
-use Rattle.std.proofs.Common.{◌≡◌, ℕ, ℤ, ◌+◌, ◌<◌, ◌≤◌, true, false, length, get_or, Some, refl, sym, ap, subst, ◌∙◌, arith}
+use Rattle.std.proofs.Common.{◌≡◌, ℕ, ℤ, ◌+◌, ◌<◌, ◌≤◌, true, false, List, length, get_or, Some, refl, sym, ap, subst, ◌∙◌, arith}
 use Rattle.std.proofs.lemmas.List.{get_or-map, length-map}
 use Rattle.std.proofs.lemmas.Option.{same_Some}
+use Rattle.rc_lang.specs.declared.lines.Line.{Line}
 use Rattle.rc_lang.specs.declared.lines.Op.{Op}
 use Rattle.rc_lang.specs.declared.lines.Op.TheVariants.{Set, Assign, Add, Subtract, Load, Store, Fill, Print, PrepRead, PrepWrite, PrepFsync, PrepNop, PrepOther, Submit, SubmitAndWait}
 use Rattle.rc_lang.specs.declared.lines.Operand.{Operand}
@@ -11,6 +12,8 @@ use Rattle.rc_lang.specs.declared.lines.Stmt.TheVariants.{Do}
 use Rattle.rc_lang.specs.declared.program.File.{File}
 use Rattle.rc_lang.specs.declared.request.Request.{Request}
 use Rattle.rc_lang.specs.Program.{DeclaresFile, IsMove, IsOperand, IsProgram, IsResolvedOp, Program, lines_of, stmt_at}
+use Rattle.rc_lang.specs.Rows.{line_read_at}
+use Rattle.rc_lang.proofs.Reading.{stmt_alone}
 use Rattle.rc_world.specs.Changes.{CallIsSmall, StmtIsSmall}
 use Rattle.rc_world.specs.Controls.{Standing}
 use Rattle.rc_world.specs.Faults.{has_buffer}
@@ -59,6 +62,10 @@ small_call program made n le _ h = tt
 pub small_stmt : (program : Program) → IsProgram program → (i j : ℕ) (s : Stmt) → stmt_at (lines_of program i) j ≡ Some s → StmtIsSmall program s
 small_stmt program made i j (Do op) e = let r = resolved_in program made i j (Do op) e in small_call program made r.0 r.2 op r.3
 small_stmt program made i j _ e = tt
+
+-- so where the line is read
+pub small_read : (program : Program) → IsProgram program → (i : ℕ) (vars : List ℤ) (j : ℕ) (l : Line) → line_read_at program i vars j ≡ Some l → StmtIsSmall program l.stmt
+small_read program made i vars j l e = small_stmt program made i j l.stmt (stmt_alone program made i vars j l e)
 
 -- ---- what stays
 

@@ -6,7 +6,7 @@ use Rattle.rc_lang.specs.declared.lines.Op.TheVariants.{Load}
 use Rattle.rc_lang.specs.declared.lines.Stmt.{Stmt}
 use Rattle.rc_lang.specs.declared.lines.Stmt.TheVariants.{Do, If, EndLoop}
 use Rattle.rc_lang.specs.declared.lines.Test.TheVariants.{Take}
-use Rattle.rc_lang.specs.Program.{Program, line_at}
+use Rattle.rc_lang.specs.Program.{Program}
 use Rattle.rc_world.specs.declared.event.Action.{Action}
 use Rattle.rc_world.specs.declared.event.Event.TheVariants.{ByThread}
 use Rattle.rc_world.specs.Changes.{standing_at}
@@ -16,11 +16,8 @@ use Rattle.rc_world.proofs.StepParts.{IsFound}
 use Rattle.rc_world.proofs.WorldSteps.{at_line}
 
 module _ (P : Program) (c : Controls) (i : ℕ) where
-  stray_at : (byte : ℕ) (t : Standing) (l : Line) → slice_get c.threads i ≡ Some t → line_at P i t.place ≡ Some l → controls_stray P c i byte ≡ as_event P i l (made P c i (strays P c i t byte l.stmt))
+  stray_at : (byte : ℕ) (t : Standing) (l : Line) → slice_get c.threads i ≡ Some t → next_at P i (Some t) ≡ Some l → controls_stray P c i byte ≡ as_event P i l (made P c i (strays P c i t byte l.stmt))
   stray_at byte t l here line = ap (λ o. strays_on P c i byte o (next_at P i o)) here ∙ ap (λ o. strays_on P c i byte (Some t) o) line
-
-  pub line_here : (j : ℕ) (l : Line) → IsFound c i j → line_at P i j ≡ Some l → next_line P c i ≡ Some l
-  line_here j l f line = ap (next_at P i) f.found ∙ ap (line_at P i) f.place ∙ line
 
   -- ---- whether there is one
 
@@ -53,9 +50,9 @@ module _ (P : Program) (c : Controls) (i : ℕ) where
   stray_number t byte l (EndLoop o k) h = absurd (cc)
   stray_number t byte l _ h = refl
 
-  pub stray_made : (j byte : ℕ) (l : Line) (action : Action) (new : Controls) → IsFound c i j → line_at P i j ≡ Some l → IsSome (strays P c i (standing_at c i) byte l.stmt)
+  pub stray_made : (j byte : ℕ) (l : Line) (action : Action) (new : Controls) → IsFound c i j → next_line P c i ≡ Some l → IsSome (strays P c i (standing_at c i) byte l.stmt)
       → made P c i (strays P c i (standing_at c i) byte l.stmt) ≡ Some (action, new) → controls_stray P c i byte ≡ Some (ByThread i l.number action, new)
   stray_made j byte l action new f line some m =
-      stray_at byte (standing_at c i) l f.found (ap (line_at P i) f.place ∙ line)
+      stray_at byte (standing_at c i) l f.found (ap (next_at P i) (sym f.found) ∙ line)
       ∙ ap (as_event P i l) m
       ∙ ap (λ n. Some (ByThread i n action, new)) (stray_number (standing_at c i) byte l l.stmt some)

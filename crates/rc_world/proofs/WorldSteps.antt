@@ -2,20 +2,20 @@
 use Rattle.std.proofs.Common.{ℕ, ℤ, ◌≡◌, ◌<◌, length, Option, Some, None, IsSome, slice_get, refl, sym, ap, subst, ◌∙◌}
 use Rattle.std.proofs.lemmas.Option.{get_or_from_slice_get, slice_get_within}
 use Rattle.rc_lang.specs.declared.lines.Line.{Line}
-use Rattle.rc_lang.specs.Program.{Program, line_at, stmt_of}
+use Rattle.rc_lang.specs.Program.{Program}
 use Rattle.rc_world.specs.declared.controls.Answer.{Answer}
 use Rattle.rc_world.specs.declared.event.Event.{Event}
 use Rattle.rc_world.specs.Changes.{StmtIsSmall, nowhere, standing_at}
 use Rattle.rc_world.specs.Controls.{Controls, Standing, controls_step, next_at, next_line}
 use Rattle.rc_world.specs.Kept.{IsKept}
 use Rattle.rc_world.specs.Machine.{World, in_rings, stmt_answer, thread_step, thread_step_at, with_controls}
-use Rattle.rc_world.proofs.RingSteps.{IsSameBut, rings_same, small_stmt}
+use Rattle.rc_world.proofs.RingSteps.{IsSameBut, rings_same, small_read}
 
 -- The thread has this line next.
 pub record IsAtLine (P : Program) (c : Controls) (i : ℕ) (l : Line) : Type 0 where
   pub found : slice_get c.threads i ≡ Some (standing_at c i)
   pub exists : i < length c.threads
-  pub line : line_at P i (standing_at c i).place ≡ Some l
+  pub line : next_at P i (Some (standing_at c i)) ≡ Some l
 
 pub at_line : (P : Program) (c : Controls) (i : ℕ) (l : Line) → next_line P c i ≡ Some l → IsAtLine P c i l
 at_line P c i l e = go (slice_get c.threads i) refl e
@@ -24,7 +24,7 @@ at_line P c i l e = go (slice_get c.threads i) refl e
     go None h q = absurd (cc)
     go (Some t) h q =
         let same = get_or_from_slice_get c.threads i t nowhere h in
-        record { found = h ∙ ap Some (sym same); exists = slice_get_within c.threads i t h; line = ap (λ (x : Standing). line_at P i x.place) same ∙ q }
+        record { found = h ∙ ap Some (sym same); exists = slice_get_within c.threads i t h; line = ap (λ (x : Standing). next_at P i (Some x)) same ∙ q }
 
 module _ (w : World) (k : IsKept w) (i : ℕ) (r : ℤ) (l : Line) (next : next_line w.program w.controls i ≡ Some l) where
   here : IsAtLine w.program w.controls i l
@@ -42,7 +42,7 @@ module _ (w : World) (k : IsKept w) (i : ℕ) (r : ℤ) (l : Line) (next : next_
   step_some h = both_some _ _ (subst IsSome step_is h)
 
   pub small_here : StmtIsSmall w.program l.stmt
-  small_here = small_stmt w.program k.made i (standing_at w.controls i).place l.stmt (ap stmt_of here.line)
+  small_here = small_read w.program k.made i (standing_at w.controls i).variables (standing_at w.controls i).place l here.line
 
   module _ (after : World) (rings : in_rings w (standing_at w.controls i) r l.stmt ≡ Some after) (a : Answer) (answer : a ≡ stmt_answer w r l.stmt) where
     same : IsSameBut w after

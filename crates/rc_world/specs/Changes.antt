@@ -6,13 +6,13 @@ use Rattle.rc_lang.specs.declared.lines.Stmt.{Stmt}
 use Rattle.rc_lang.specs.declared.lines.Stmt.TheVariants.{Do, If}
 use Rattle.rc_lang.specs.declared.lines.Test.{Test}
 use Rattle.rc_lang.specs.declared.lines.Test.TheVariants.{Compare, ReadyZero, SpaceAtLeast, Take, Any}
-use Rattle.rc_lang.specs.Program.{IsOperand, IsProgram, Items, Program, items_at, lines_of, lists_of, stmt_at}
+use Rattle.rc_lang.specs.Program.{IsOperand, IsProgram, Program, lines_of, lists_of, stmt_at}
 use Rattle.rc_split.specs.Pools.{Pools, taken_from}
 use Rattle.rc_world.specs.declared.controls.Answer.{Answer}
 use Rattle.rc_world.specs.declared.controls.Holders.{Holders}
 use Rattle.rc_world.specs.declared.controls.Look.TheVariants.{Unseen}
 use Rattle.rc_world.specs.declared.event.Action.{Action}
-use Rattle.rc_world.specs.Controls.{Controls, Move, Standing, acts, branches, hop_of, is_arm_end, made, passes_arm, rest_at}
+use Rattle.rc_world.specs.Controls.{Controls, Move, Standing, acts, branches, hop_of, is_arm_end, list_at, made, passes_arm, rest_at}
 
 -- where a thread is; for a number that names no thread that says nothing
 abbrev pub nowhere : Standing
@@ -40,12 +40,9 @@ if_rule program i holds c t = Some (branches program c i t holds)
 abbrev pub Decides : Program → ℕ → Controls → Test → Answer → Bool → Controls → Type 0
 Decides program i old test a holds new = act_at program i old (If test) a ≡ Some (branches program new i (standing_at old i) holds)
 
--- the items of the thread's list with this number, and what is left where they are taken or not
-abbrev pub list_at : Program → ℕ → ℕ → Items
-list_at program i k = items_at (lists_of program i) k
-
+-- what is left where the thread takes the items of its list with this number, and where it doesn't
 abbrev pub after_take : Program → ℕ → Option ℕ → ℕ → Controls → Bool → Controls
-after_take program i pool k c holds = record c { pools = if holds then taken_from program pool (list_at program i k) c.pools else c.pools }
+after_take program i pool k c holds = record c { pools = if holds then taken_from program pool (list_at program i (standing_at c i) k) c.pools else c.pools }
 
 -- with another value of a variable
 abbrev pub with_variable : Controls → ℕ → ℕ → ℤ → Controls

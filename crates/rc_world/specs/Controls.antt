@@ -1,5 +1,5 @@
 -- Where each thread is, and what a step of it does there, given what the rings and buffers answer.
-use Rattle.std.specs.Prelude.{ℕ, zero, suc, ◌+◌, ◌%◌, Bool, true, false, ◌&&◌, ◌||◌, if◌then◌else◌, List, length, map, replicate, Option, Some, None, nat_eq, option_map, position, unwrap_or, slice_get, slice_index_or, slice_range, slice_set, ℤ, pos, negsuc, ◌+ℤ◌, ◌-ℤ◌, int_le}
+use Rattle.std.specs.Prelude.{ℕ, zero, suc, ◌+◌, ◌%◌, Bool, true, false, ◌&&◌, ◌||◌, if◌then◌else◌, List, [], length, map, replicate, Option, Some, None, nat_eq, option_map, position, unwrap_or, slice_get, slice_index_or, slice_range, slice_set, ℤ, pos, negsuc, ◌+ℤ◌, ◌-ℤ◌, int_le}
 use Rattle.std.specs.Int.{cast_unsigned, int_wrap, w64}
 use Rattle.std.specs.Ordering.{int_eq}
 use Rattle.rc_lang.specs.Comparisons.{compares}
@@ -13,8 +13,9 @@ use Rattle.rc_lang.specs.declared.lines.Stmt.{Stmt}
 use Rattle.rc_lang.specs.declared.lines.Stmt.TheVariants.{Do, Put, Lock, EndLock, If, Else, EndIf, Peek, Case, Other, Nothing, EndArm, Loop, EndLoop, Break}
 use Rattle.rc_lang.specs.declared.lines.Test.{Test}
 use Rattle.rc_lang.specs.declared.lines.Test.TheVariants.{Compare, ReadyZero, SpaceAtLeast, Take, Any}
-use Rattle.rc_lang.specs.Program.{Program, Items, Thread, items_at, lines_of, line_at, lists_of, end_at, stmt_at}
-use Rattle.rc_split.specs.Pools.{Pools, all_pooled, empty_pools, includes, overfills, pool_of, put_into, taken_from}
+use Rattle.rc_lang.specs.Program.{Program, Items, Thread, lines_of, line_at, end_at, stmt_at}
+use Rattle.rc_lang.specs.Rows.{line_read_at, list_read_at, value_of}
+use Rattle.rc_split.specs.Pools.{Pools, all_pooled, includes, overfills, pool_of, put_into, start_pools, taken_from}
 use Rattle.rc_world.specs.declared.controls.Answer.{Answer}
 use Rattle.rc_world.specs.declared.controls.Answer.TheVariants.{Plain, Number, Byte, Front}
 use Rattle.rc_world.specs.declared.controls.Holders.{Holders}
@@ -60,7 +61,7 @@ held_by holder l h = record { sq = if l.sq then holder else h.sq; cq = if l.cq t
 -- ---- variables
 
 abbrev pub variable : Standing → ℕ → ℤ
-variable t x = slice_index_or t.variables x (pos 0)
+variable t x = value_of t.variables x
 
 abbrev pub operand_value : Standing → Operand → ℤ
 operand_value t (Variable x) = variable t x
@@ -136,6 +137,10 @@ abbrev pub none_arm : Program → ℕ → ℕ → ℕ
 none_arm program i o = o + unwrap_or (first_place (is_none_arm o) (arms_of program i o)) 0
 
 -- ---- what a statement does
+
+-- the items of a put or a take of a thread, by their number, read at its variables
+abbrev pub list_at : Program → ℕ → Standing → ℕ → Items
+list_at program i t k = list_read_at program i t.variables k
 
 -- What the thread does, who holds the locks then, what was done with the front, the pools, where the thread goes, and
 -- its variables.
@@ -226,7 +231,7 @@ abbrev pub decides : Program → Controls → ℕ → Standing → Test → Answ
 decides program c i t (Compare x comparison n) a = plainly (branches program c i t (compares comparison (variable t x) n)) a
 decides program c i t ReadyZero (Number n) = Some (branches program c i t (int_eq n (pos 0)))
 decides program c i t (SpaceAtLeast m) (Number n) = Some (branches program c i t (int_le (pos m) n))
-decides program c i t (Take pool k) a = plainly (tries_to_take program c i t pool (items_at (lists_of program i) k)) a
+decides program c i t (Take pool k) a = plainly (tries_to_take program c i t pool (list_at program i t k)) a
 decides program c i t Any (Number n) = chooses program c i t n
 decides program c i t _ _ = None
 
@@ -267,7 +272,7 @@ breaks program c i t o releases leaves =
 
 abbrev pub acts : Program → Controls → ℕ → Standing → Stmt → Answer → Option Move
 acts program c i t (Do op) a = does c t op a
-acts program c i t (Put pool k) a = puts_items program c t pool (items_at (lists_of program i) k) a
+acts program c i t (Put pool k) a = puts_items program c t pool (list_at program i t k) a
 acts program c i t (Lock wanted) a = locks c i t wanted a
 acts program c i t (EndLock o released) a = releases c t released a
 acts program c i t (If test) a = decides program c i t test a
@@ -292,13 +297,21 @@ made program c i (Some m) = Some (m.action, moved program c i m)
 
 -- ---- the step of a thread in its controls
 
--- the line that a thread has next
+-- the line that a thread has next, read at its variables
 abbrev pub next_at : Program → ℕ → Option Standing → Option Line
 next_at program i None = None
-next_at program i (Some t) = line_at program i t.place
+next_at program i (Some t) = line_read_at program i t.variables t.place
 
 abbrev pub next_line : Program → Controls → ℕ → Option Line
 next_line program c i = next_at program i (slice_get c.threads i)
+
+-- the items that a put or a take of a thread names by this number, read at its variables now
+abbrev pub variables_in : Option Standing → List ℤ
+variables_in None = []
+variables_in (Some t) = t.variables
+
+abbrev pub list_here : Program → Controls → ℕ → ℕ → Items
+list_here program c i k = list_read_at program i (variables_in (slice_get c.threads i)) k
 
 -- the number of the line of an event: at a return to the top of a loop it is the loop's
 abbrev pub line_number : Option Line → ℕ
@@ -324,6 +337,7 @@ controls_step program c i a = acts_on program c i a (slice_get c.threads i) (nex
 
 -- ---- the start
 
--- Every thread at its first line, its variables 0; the locks are free, nothing is peeked, and the pools are empty.
+-- Every thread at its first line, its variables 0; the locks are free, nothing is peeked, and the pools have what their
+-- lines say.
 abbrev pub start_controls : Program → Controls
-start_controls program = record { threads = map (λ (t : Thread). record { place = 0; variables = replicate 64 (pos 0) }) program.threads; holders = nobody; look = Unseen; pools = empty_pools (length program.pools) }
+start_controls program = record { threads = map (λ (t : Thread). record { place = 0; variables = replicate 64 (pos 0) }) program.threads; holders = nobody; look = Unseen; pools = start_pools program }

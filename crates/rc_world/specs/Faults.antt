@@ -11,7 +11,7 @@ use Rattle.rc_lang.specs.declared.lines.Test.TheVariants.{Compare, ReadyZero, Sp
 use Rattle.rc_lang.specs.declared.request.Kind.{Kind}
 use Rattle.rc_lang.specs.declared.request.Kind.TheVariants.{Nop, Fsync, Read, Write, Other}
 use Rattle.rc_lang.specs.declared.request.Request.{Request}
-use Rattle.rc_lang.specs.Program.{Program, bytes_at, items_at, lists_of}
+use Rattle.rc_lang.specs.Program.{Program, bytes_at}
 use Rattle.rc_split.specs.Pools.{all_pooled, overfills}
 use Rattle.rc_world.specs.declared.controls.Look.{Look}
 use Rattle.rc_world.specs.declared.controls.Look.TheVariants.{Unseen, Peeked, Got}
@@ -22,7 +22,7 @@ use Rattle.rc_world.specs.declared.fault.FaultKind.TheVariants.{WriteOfPending, 
 use Rattle.rc_world.specs.declared.fault.Party.TheVariants.{At, InKernel}
 use Rattle.rc_world.specs.declared.world.Slot.{Slot}
 use Rattle.rc_world.specs.declared.world.Slot.TheVariants.{Closed, Vacant, Prepared}
-use Rattle.rc_world.specs.Controls.{Standing, next_line}
+use Rattle.rc_world.specs.Controls.{Standing, list_here, next_line}
 use Rattle.rc_world.specs.Machine.{Pending, World, is_read, used_entries}
 
 abbrev pub is_holder : Option ℕ → ℕ → Bool
@@ -253,7 +253,7 @@ may_put w i None = has_both_locks w i
 may_put w i (Some n) = true
 
 abbrev pub is_double_at : World → ℕ → Stmt → Bool
-is_double_at w i (Put pool k) = may_put w i pool && overfills w.program (all_pooled w.program w.controls.pools) (items_at (lists_of w.program i) k)
+is_double_at w i (Put pool k) = may_put w i pool && overfills w.program (all_pooled w.program w.controls.pools) (list_here w.program w.controls i k)
 is_double_at w i _ = false
 
 -- ---- all of them

@@ -129,7 +129,7 @@ impl Model for Controls {
       pools = c.pools;
     } };
 
-    ghost invariant = { λ c. length c.threads.items ≤ 16 };
+    ghost invariant = { λ c. length c.threads.items ≤ 64 };
 }
 
 impl Controls {
@@ -137,7 +137,8 @@ impl Controls {
     ghost use Rattle.rc_world.specs.Faults.{is_holder};
     ghost use Rattle.rc_world.specs.Readers.{variable_in};
 
-    /// Every thread at its first line, its variables 0; the locks are free, nothing is peeked, and the pools are empty.
+    /// Every thread at its first line, its variables 0; the locks are free, nothing is peeked, and the pools have
+    /// what their lines say.
     pub fn start(alloc: Global, program: &Program) -> Result<Controls, AllocError>
         ensures start { IfOk result (λ c. c ≡ spec.start_controls program.now) }
         ensures made { IsProgram program.now }
@@ -146,7 +147,7 @@ impl Controls {
             threads: first_places(alloc, program.threads())?,
             holders: Holders { sq: None, cq: None },
             look: Look::Unseen,
-            pools: Pools::empty(alloc, program.pools().len())?,
+            pools: Pools::start(alloc, program)?,
         })
     }
 
@@ -211,20 +212,22 @@ impl Controls {
         is_holder(self.holders.cq, thread)
     }
 
-    /// How many threads there are, at most 16.
+    /// How many threads there are, at most 64.
     pub(crate) fn count(&self) -> u32
         ensures count { result ≡ length self.now.threads }
-        ensures few { result ≤ 16 }
+        ensures few { result ≤ 64 }
     {
         self.threads.len() as u32
     }
 
-    /// The line that the thread has next.
+    /// The line that the thread has next, read at its variables.
     pub(crate) fn line(&self, program: &Program, thread: u32) -> Option<Line>
-        ensures { result ≡ spec.next_line program.now self.now thread }
+        ensures value { result ≡ spec.next_line program.now self.now thread }
+        ensures made { IsProgram program.now }
     {
-        let place = self.place(thread)?;
-        program.line_at(thread as usize, place)
+        let _made = program.entries();
+        let control = self.threads.get(thread as usize)?;
+        program.read_line_at(thread as usize, &control.variables, control.place)
     }
 
     /// What a store or a fill of a variable writes: the low eight bits of its value.

@@ -25,11 +25,13 @@ syntax keyword ringcheckCall submit submit_and_wait cqe_get_data64 cqe_seen sq_r
 syntax keyword ringcheckPool put take
 syntax keyword ringcheckByte load store fill print
 
-" Behind `put` and `take` the pool, where there is no colon.
-syntax match ringcheckPoolName /\(\<\(put\|take\)\s\+\)\@<=[a-z][a-z0-9_]*\(:\|[a-z0-9_]\)\@!/
+" Behind `pool`, `put` and `take` the pool, where there is no colon.
+syntax match ringcheckPoolName /\(\<\(pool\|put\|take\)\s\+\)\@<=[a-z][a-z0-9_]*\(:\|[a-z0-9_]\)\@!/
 syntax match ringcheckNumber /\(^\|\s\)\@1<=-\?\(0\|[1-9][0-9]*\)\(\s\|$\)\@=/
 syntax match ringcheckItem /\<[a-z][a-z0-9_]*:[0-9]\+\>/ contains=ringcheckCount
 syntax match ringcheckCount /:[0-9]\+/hs=s+1 contained
+" The number of a thread's copies.
+syntax match ringcheckCopies /\[[0-9]\+\]/
 syntax match ringcheckOperator /\s\@1<=\(==\|!=\|<=\|>=\|<\|>\|=\|+\|-\)\s\@=/
 syntax match ringcheckBrace /[{}]/
 
@@ -51,6 +53,7 @@ highlight default link ringcheckByte Statement
 highlight default link ringcheckNumber Number
 highlight default link ringcheckItem Identifier
 highlight default link ringcheckCount Number
+highlight default link ringcheckCopies Number
 highlight default link ringcheckOperator Operator
 highlight default link ringcheckBrace Delimiter
 

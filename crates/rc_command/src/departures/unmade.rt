@@ -30,12 +30,26 @@ fn push_threads(
     threads: &[Thread],
     follower: &Follower<'_>,
 ) -> Result<(), AllocError>
-    ensures { IfOk result (λ _. unmade.new.items ≡ unmade.old.items ++ flat_map (λ t. unmade_in follower.now.reached t.lines) (map view_thread threads.now)) }
+    ensures { IfOk result (λ _. unmade.new.items ≡ unmade.old.items ++ flat_map (spec.unmade_of follower.now.reached) (map view_thread threads.now)) }
 {
     for thread in threads {
-        push_unmade(unmade, &thread.lines, follower)?;
+        push_thread(unmade, thread, follower)?;
     }
     Ok(())
+}
+
+/// Adds the lines of a thread with calls that no log made; those of copies once.
+fn push_thread(
+    unmade: &mut Vec<Line>,
+    thread: &Thread,
+    follower: &Follower<'_>,
+) -> Result<(), AllocError>
+    ensures { IfOk result (λ _. unmade.new.items ≡ unmade.old.items ++ spec.unmade_of follower.now.reached (view_thread thread.now)) }
+{
+    if thread.is_further() {
+        return Ok(());
+    }
+    push_unmade(unmade, &thread.lines, follower)
 }
 
 /// Adds the lines with calls that no log made.

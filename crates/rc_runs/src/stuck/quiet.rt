@@ -1,7 +1,7 @@
 //! Which steps of threads move something, and which can be compared.
 
 ghost use Rattle.std.specs.Prelude.{◌≡◌, ◌&&◌, false, slice_index_or};
-ghost use Rattle.rc_lang.specs.Program.{items_at, lists_of};
+ghost use Rattle.rc_lang.specs.Program.{IsProgram, items_at, lists_of};
 ghost use Rattle.rc_runs.specs.Stuck as spec;
 ghost use Rattle.rc_runs.specs.Closing as closing;
 ghost use Rattle.rc_split.specs.Pools.{includes, pool_of};
@@ -48,7 +48,8 @@ fn op_moves(world: &World<'_>, op: Op) -> bool
 
 /// Whether a pool may have the items with this number among the thread's lists.
 fn may_take(world: &World<'_>, thread: u32, pool: Option<usize>, k: usize) -> bool
-    ensures { result ≡ false → includes world.now.program (pool_of world.now.controls.pools pool) (items_at (lists_of world.now.program thread) k) ≡ false }
+    ensures value { result ≡ false → includes world.now.program (pool_of world.now.controls.pools pool) (items_at (lists_of world.now.program thread) k) ≡ false }
+    ensures made { IsProgram world.now.program }
 {
     let program = world.program();
     match program.lists_of(thread as usize).get(k) {

@@ -19,10 +19,11 @@ fn sq_on(side: &Side) -> Submitting {
 
 /// The part that is asked for and isn't there, if it is one.
 pub fn missing_part(side: &Side, thread: usize, zero: bool, asks: Asks) -> Option<Part> {
-    let program = side.program();
+    let view = side.view();
+    let program = view.program;
     let part = match asks {
         Asks::Part(part) => part,
-        Asks::Whole(buffer) => Part::Shares(buffer, program.shares_at(buffer)),
+        Asks::Whole(buffer) => Part::Shares(buffer, view.shares_at(buffer)),
         Asks::Items(list) => return first_missing(program, said(program, thread, list, true), side),
         Asks::Loop(list) => return first_missing(program, said(program, thread, list, zero), side),
         _ => return None,
@@ -40,7 +41,7 @@ fn queue_on(program: &Program, thread: usize, list: usize) -> u32 {
 
 /// Whether less is there on the side than is asked for.
 pub fn is_short(side: &Side, thread: usize, zero: bool, asks: Asks) -> bool {
-    !side.is_met(side.program().lists_of(thread), zero, asks)
+    !side.is_met(side.view().program.lists_of(thread), zero, asks)
 }
 
 /// Adds at which stage a slot is.
@@ -58,17 +59,17 @@ pub fn put_slot(text: &mut Vec<u8>, program: &Program, slot: Slot) -> Result<(),
 /// Adds which stage is asked for, and that of the slot.
 fn put_slot_asked(text: &mut Vec<u8>, side: &Side, asked: &[u8]) -> Result<(), AllocError> {
     put_pieces(text, &[b"asks for ", asked, b"; "])?;
-    put_slot(text, side.program(), sq_on(side).slot)
+    put_slot(text, side.view().program, sq_on(side).slot)
 }
 
 /// Adds what the line of a token says, and how the entry is.
 fn put_line(text: &mut Vec<u8>, side: &Side, user_data: u64) -> Result<(), AllocError> {
     put_counted(text, b"asks for what token ", user_data, b" says, ")?;
-    if let Some(token) = token_of(side.program(), user_data) {
-        put_kinds(text, side.program(), token)?;
+    if let Some(token) = token_of(side.view(), user_data) {
+        put_kinds(text, side.view().program, token)?;
     }
     put_piece(text, b"; ")?;
-    put_slot(text, side.program(), sq_on(side).slot)
+    put_slot(text, side.view().program, sq_on(side).slot)
 }
 
 /// Adds a part that is asked for, and how many of it are held.
@@ -92,14 +93,14 @@ fn put_part_asked(text: &mut Vec<u8>, side: &Side, part: Part) -> Result<(), All
 
 /// Adds which buffer's shares are asked for, and how many are held.
 fn put_held(text: &mut Vec<u8>, side: &Side, buffer: usize) -> Result<(), AllocError> {
-    let name = buffer_name(side.program(), buffer);
+    let name = buffer_name(side.view().program, buffer);
     put_pieces(text, &[b" of ", name, b"; held: "])?;
     put_number(text, u64::from(side.shares(buffer)))
 }
 
 /// Adds that all shares of a buffer are asked for, and how many are held.
 fn put_whole(text: &mut Vec<u8>, side: &Side, buffer: usize) -> Result<(), AllocError> {
-    let shares = side.program().shares_at(buffer);
+    let shares = side.view().shares_at(buffer);
     if shares == 1 {
         put_piece(text, b"asks for the one share")?;
     } else {
@@ -110,9 +111,9 @@ fn put_whole(text: &mut Vec<u8>, side: &Side, buffer: usize) -> Result<(), Alloc
 
 /// Adds what items say, and what of that is missing.
 fn put_missing(text: &mut Vec<u8>, side: &Side, said: Claim) -> Result<(), AllocError> {
-    put_parts(text, side.program(), Counted::Said(said))?;
+    put_parts(text, side.view().program, Counted::Said(said))?;
     put_piece(text, b"; missing:")?;
-    put_parts(text, side.program(), Counted::Missing(said, side))
+    put_parts(text, side.view().program, Counted::Missing(said, side))
 }
 
 /// Adds what a loop's top or its end asks for, and what of that isn't there.
@@ -125,12 +126,12 @@ fn put_loop(
 ) -> Result<(), AllocError> {
     if missing_part(side, thread, zero, Asks::Loop(list)).is_some() {
         put_piece(text, b"the loop keeps")?;
-        return put_missing(text, side, said(side.program(), thread, list, zero));
+        return put_missing(text, side, said(side.view().program, thread, list, zero));
     }
     if sq_on(side).slot != Slot::Closed {
         return put_slot_asked(text, side, b"no open entry");
     }
-    let queue = u64::from(queue_on(side.program(), thread, list));
+    let queue = u64::from(queue_on(side.view().program, thread, list));
     put_counted(text, b"the loop keeps q:", queue, b"; q is ")?;
     put_number(text, u64::from(sq_on(side).queued))
 }
@@ -143,21 +144,21 @@ pub fn put_side(
     zero: bool,
     asks: Asks,
 ) -> Result<(), AllocError> {
-    let program = side.program();
+    let view = side.view();
     match asks {
         Asks::Part(part) => put_part_asked(text, side, part),
         Asks::Whole(buffer) => put_whole(text, side, buffer),
         Asks::Items(list) => {
             put_piece(text, b"puts")?;
-            put_missing(text, side, said(program, thread, list, true))
+            put_missing(text, side, said(view.program, thread, list, true))
         }
         Asks::Loop(list) => put_loop(text, side, thread, list, zero),
         Asks::Place(buffer, place) => {
-            let bytes = program.bytes_at(buffer);
+            let bytes = view.bytes_at(buffer);
             put_bytes(text, b"a place below ", bytes, b"", place)
         }
         Asks::Length(buffer, length) => {
-            let bytes = program.bytes_at(buffer);
+            let bytes = view.bytes_at(buffer);
             put_bytes(text, b"at most ", bytes, b" bytes", length)
         }
         asks => put_ring_asked(text, side, asks),
@@ -166,7 +167,7 @@ pub fn put_side(
 
 /// Adds what is asked for of the rings, and how they are.
 fn put_ring_asked(text: &mut Vec<u8>, side: &Side, asks: Asks) -> Result<(), AllocError> {
-    let program = side.program();
+    let program = side.view().program;
     match asks {
         Asks::SqLock => put_lock(text, program, b" sq"),
         Asks::CqLock => put_lock(text, program, b" cq"),
@@ -197,7 +198,7 @@ fn put_lock(text: &mut Vec<u8>, program: &Program, side: &[u8]) -> Result<(), Al
 /// Adds how many entries may be queued, from version 4 on how many tokens may be those of queued requests, and from version
 /// 5 on how many credits may be theirs.
 fn put_room(text: &mut Vec<u8>, side: &Side) -> Result<(), AllocError> {
-    let program = side.program();
+    let program = side.view().program;
     let queued = u64::from(sq_on(side).queued);
     put_counted(text, b"asks for room in the queue; q is ", queued, b" of ")?;
     put_counted(text, b"", u64::from(program.entries()), b" entries")?;
@@ -247,7 +248,7 @@ fn put_out(text: &mut Vec<u8>, program: &Program, lacking: u32) -> Result<(), Al
 }
 
 fn put_left(text: &mut Vec<u8>, side: &Side) -> Result<(), AllocError> {
-    let left = u64::from(side.program().left());
+    let left = u64::from(side.view().left());
     let entries: &[u8] = if left == 1 { b" entry" } else { b" entries" };
     put_counted(text, b"at most ", left, entries)?;
     put_counted(text, b" may stay queued (`left ", left, b"`); ")?;

@@ -12,25 +12,40 @@ fn shares_in(thread: &Thread, buffer: usize) -> u32 {
     shares_of(&thread.items.shares, buffer)
 }
 
-/// What all headers together have of a buffer's shares, and the first other thread that begins with some, with how many.
+/// What all pools and headers together have of a buffer's shares, and the first thread of another line that begins with some, with how
+/// many.
 #[derive(Clone, Copy)]
 struct Begun<'a> {
     given: u32,
     other: Option<(&'a Thread, u32)>,
 }
 
-/// What the headers have of a buffer's shares.
+/// What pools and headers have of a buffer's shares at the start.
 fn at_start(refused: Refused<'_>, buffer: usize) -> Begun<'_> {
     let mut given: u32 = 0;
     let mut other = None;
-    for (number, thread) in refused.program().threads().iter().enumerate() {
+    for stock in refused.program().stock() {
+        given = given.saturating_add(shares_of(&stock.items.shares, buffer));
+    }
+    for thread in refused.program().threads() {
         let held = shares_in(thread, buffer);
         given = given.saturating_add(held);
-        if number != refused.walked.number && held > 0 && other.is_none() {
+        if thread.line != refused.walked.thread.line && held > 0 && other.is_none() {
             other = Some((thread, held));
         }
     }
     Begun { given, other }
+}
+
+/// How many threads have the text of a refused one: its copies, or it alone.
+fn copies_of(refused: Refused<'_>) -> u32 {
+    let mut copies: u32 = 0;
+    for thread in refused.program().threads() {
+        if thread.line == refused.walked.thread.line {
+            copies = copies.saturating_add(1);
+        }
+    }
+    copies
 }
 
 /// Adds that the header of a thread is to hold a part, since no header has the rest.
@@ -54,7 +69,7 @@ fn put_other(
     thread: &Thread,
     held: Part,
 ) -> Result<(), AllocError> {
-    let (line, name) = (u64::from(thread.line), &thread.name);
+    let (line, name) = (u64::from(thread.line), thread.declared_name());
     put_piece(text, b"Take ")?;
     put_part(text, refused.program(), held)?;
     put_counted(text, b" from the header of line ", line, b" and ")?;
@@ -75,7 +90,7 @@ pub fn put_move(text: &mut Vec<u8>, refused: Refused, part: Part) -> Result<(), 
     let Begun { given, other } = at_start(refused, buffer);
     let wanted = count.saturating_sub(shares_in(own, buffer));
     let free = refused.program().shares_at(buffer).saturating_sub(given);
-    if wanted > 0 && wanted <= free {
+    if wanted > 0 && wanted.saturating_mul(copies_of(refused)) <= free {
         return put_more(text, refused, own, part);
     }
     match other {

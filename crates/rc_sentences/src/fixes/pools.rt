@@ -1,7 +1,7 @@
 //! Pools that have what a refused line misses.
 
 use crate::parts::{Counted, put_part, put_parts, said};
-use crate::puts::{Puts, count_in, count_of, first_put, has, with_count};
+use crate::puts::{Puts, begun_in, count_in, count_of, first_put, has, with_count};
 use crate::walked::Refused;
 use rc_lang::lines::{Op, Stmt, Test};
 use rc_lang::program::Program;
@@ -163,6 +163,18 @@ fn put_other_pool(
         None => put_pieces(text, &[b"`if take ", name, b" ..`"])?,
     }
     put_piece(text, b".")
+}
+
+/// Adds that a part is to be taken from the pool without a name, where it begins with so much of it, and says whether it does.
+pub fn put_begun(text: &mut Vec<u8>, refused: Refused, part: Part) -> Result<bool, AllocError> {
+    if begun_in(refused.program(), None, part) < count_of(part) {
+        return Ok(false);
+    }
+    put_into(text, refused)?;
+    put_piece(text, b"`if take ")?;
+    put_part(text, refused.program(), part)?;
+    put_piece(text, b" {`.")?;
+    Ok(true)
 }
 
 /// How many of a part a list of the thread has.

@@ -3,7 +3,7 @@
 use crate::asks::Missing;
 use crate::walked::Refused;
 use rc_lang::lines::{Op, Stmt, Test};
-use rc_lang::program::Program;
+use rc_lang::view::View;
 use rc_rules::kinds::{shares_of, token_of};
 use rc_rules::mode::{Peeked, peeked_of, unlocked};
 use rc_rules::side::Side;
@@ -48,13 +48,13 @@ struct Ways<'a> {
 }
 
 /// What comes back of a part with the peeked completion, if some does.
-fn owned_of(program: &Program, peeked: Peeked, part: Part) -> Option<Part> {
+fn owned_of(view: View, peeked: Peeked, part: Part) -> Option<Part> {
     match (part, peeked) {
         (_, Peeked::Unseen) => None,
         (Part::Credits(_), _) => Some(Part::Credits(1)),
         (Part::Token(token), Peeked::Sees(user_data)) => (token == user_data).then_some(part),
         (Part::Shares(buffer, _), Peeked::Sees(user_data)) => {
-            let back = shares_of(program, token_of(program, user_data)?, buffer);
+            let back = shares_of(view, token_of(view, user_data)?, buffer);
             (back > 0).then_some(Part::Shares(buffer, back))
         }
         _ => None,
@@ -64,7 +64,7 @@ fn owned_of(program: &Program, peeked: Peeked, part: Part) -> Option<Part> {
 /// That a part comes back with the peeked completion, where what is held and that are as much as is missing.
 fn peeked_loss(side: &Side, part: Part) -> Option<Loss> {
     let peeked = peeked_of(side.mode().unwrap_or(unlocked()));
-    let owned = owned_of(side.program(), peeked, part)?;
+    let owned = owned_of(side.view(), peeked, part)?;
     let is_met = match (part, owned) {
         (Part::Shares(buffer, count), Part::Shares(_, more)) => {
             side.shares(buffer).saturating_add(more) >= count

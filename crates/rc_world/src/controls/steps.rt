@@ -3,17 +3,18 @@
 ghost use Rattle.std.specs.Prelude.{◌≡◌, ◌<◌, ◌≤◌, length, Some, IsSome};
 ghost use Rattle.rc_lang.specs.declared.lines.Op.TheVariants.{Set, Submit};
 ghost use Rattle.rc_lang.specs.declared.lines.Stmt.TheVariants.{Break, Do, If, Lock, Peek, Put};
+ghost use Rattle.rc_lang.specs.Parts.{view_items};
 ghost use Rattle.rc_lang.specs.Program.{end_at, lists_of};
 ghost use Rattle.rc_split.specs.Pools.{includes, pool_of};
 ghost use Rattle.rc_world.specs.declared.controls.Answer.TheVariants.{Plain};
-ghost use Rattle.rc_world.specs.Changes.{Acts, Decides, Moves, StandsAt, TestIsSmall, act_at, after_take, if_rule, gone_to, list_at, standing_at, with_pools, with_variable};
-ghost use Rattle.rc_world.specs.Controls.{controls_step, goes_on, loads, releases};
+ghost use Rattle.rc_world.specs.Changes.{Acts, Decides, Moves, StandsAt, TestIsSmall, act_at, after_take, if_rule, gone_to, standing_at, with_pools, with_variable};
+ghost use Rattle.rc_world.specs.Controls.{controls_step, goes_on, list_at, loads, releases};
 
 use super::places::{arm_for, none_arm, number_of_event, rest};
 use super::{Answer, Controls, Look};
 use crate::event::{Action, Event};
 use rc_lang::lines::{Locks, Test};
-use rc_lang::program::Program;
+use rc_lang::program::{Items, Program};
 
 /// The value of a variable after a peek without a completion: `-EAGAIN` (`io_uring_peek_cqe(3)`).
 const NO_COMPLETION: i64 = -11;
@@ -27,7 +28,7 @@ impl Controls {
         let Some(place) = self.place(thread) else {
             unreachable!()
         };
-        let Some(line) = program.line_at(thread as usize, place) else {
+        let Some(line) = self.line(program, thread) else {
             unreachable!()
         };
         let action = self.act(program, thread, place, line.stmt, answer);
@@ -140,6 +141,15 @@ impl Controls {
         self.pass(program, thread, place, Action::Released(released))
     }
 
+    // The items of the thread's list with this number, read at its variables: each of its names stands for itself.
+    fn list<'p>(&self, program: &'p Program, thread: u32, k: usize) -> &'p Items
+        requires { k < length (lists_of program.now thread) }
+        ensures { view_items result.now ≡ list_at program.now thread (standing_at self.now thread)
+            k }
+    {
+        &program.lists_of(thread as usize)[k]
+    }
+
     // The step of a put.
     pub(super) fn put(
         &mut self,
@@ -154,7 +164,7 @@ impl Controls {
         requires step { IsSome (act_at program.now thread self.old (Put pool k) answer) }
         ensures { Acts program.now thread self.old (Put pool k) answer result self.new }
     {
-        let items = &program.lists_of(thread as usize)[k];
+        let items = self.list(program, thread, k);
         self.pools.put(pool, program, items);
         self.pass(program, thread, place, Action::ItemsPut)
     }
@@ -169,10 +179,10 @@ impl Controls {
     ) -> bool
         requires { k < length (lists_of program.now thread) }
         ensures holds { result ≡ includes program.now (pool_of self.old.pools pool)
-            (list_at program.now thread k) }
+            (list_at program.now thread (standing_at self.old thread) k) }
         ensures pools { self.new ≡ after_take program.now thread pool k self.old result }
     {
-        let items = &program.lists_of(thread as usize)[k];
+        let items = self.list(program, thread, k);
         let holds = self.pools.includes(pool, program, items);
         if holds {
             self.pools.take(pool, program, items);

@@ -43,7 +43,7 @@ impl Controls {
         let Some(place) = self.place(thread) else {
             unreachable!()
         };
-        let Some(line) = program.line_at(thread as usize, place) else {
+        let Some(line) = self.line(program, thread) else {
             unreachable!()
         };
         let action = self.go_astray(program, thread, place, line.stmt, byte);

@@ -2,8 +2,8 @@
 
 ghost use Rattle.std.specs.Prelude.{◌≡◌, ◌+◌, ◌&&◌, ◌<◌, ◌≤◌, ℕ, None, map, option_map, slice_get, true};
 ghost use Rattle.std.specs.List.{list_any};
-ghost use Rattle.rc_lang.specs.Program.{items_at, lists_of};
 ghost use Rattle.rc_split.specs.Pools.{all_pooled, overfills};
+ghost use Rattle.rc_world.specs.Controls.{list_here};
 ghost use Rattle.rc_world.specs.Faults as spec;
 ghost use Rattle.rc_world.specs.Harm.{is_pending, line_of};
 ghost use Rattle.rc_world.specs.WorldParts.{view_access, view_pending};
@@ -77,7 +77,7 @@ impl<'a> World<'a> {
 
     // The fault of this kind that a thread has.
     fn fault_at(&self, kind: FaultKind, thread: u32) -> Option<Fault>
-        requires { thread ≤ 16 }
+        requires { thread ≤ 64 }
         ensures { result ≡ slice_get (spec.fault_at self.now kind thread (line_of self.now thread))
             0 }
     {
@@ -111,7 +111,7 @@ impl<'a> World<'a> {
 
     // Whether a thread has the fault of this kind, whose next statement is this.
     fn has_fault(&self, kind: FaultKind, thread: u32, stmt: Stmt) -> bool
-        requires { thread ≤ 16 }
+        requires { thread ≤ 64 }
         ensures { result ≡ spec.has_fault self.now kind thread stmt }
     {
         match kind {
@@ -152,7 +152,7 @@ impl<'a> World<'a> {
 
     // Whether a later thread has the same buffer next, and one of the two writes it.
     fn races(&self, thread: u32, access: Option<Access>) -> bool
-        requires { thread ≤ 16 }
+        requires { thread ≤ 64 }
         ensures { result ≡ spec.races self.now thread (option_map view_access access) }
     {
         if access.is_none() {
@@ -235,12 +235,12 @@ impl<'a> World<'a> {
     fn overfills(&self, thread: u32, k: usize) -> bool
         ensures { result ≡ overfills self.now.program
             (all_pooled self.now.program self.now.controls.pools)
-            (items_at (lists_of self.now.program thread) k) }
+            (list_here self.now.program self.now.controls thread k) }
     {
         let pools = self.controls.pools();
         match self.program.lists_of(thread as usize).get(k) {
             Some(items) => pools.are_overfilled_by(self.program, items),
-            None => u64::from(self.program.completion_entries()) < pools.credits(),
+            None => !(pools.credits() <= u64::from(self.program.completion_entries())),
         }
     }
 

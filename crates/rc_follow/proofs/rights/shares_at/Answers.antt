@@ -10,7 +10,7 @@ returns c = (
   c.loop-step.invariant.thread,
   (
     sides_of c.loop-step.labels.state,
-    strongest_here c.args.program.now c.loop-step.labels c.args.spot.place c.loop-step.invariant.program (omega arith) c.state.ensures.strongest,
+    strongest_here c.args.program.now c.args.spot.thread c.loop-step.labels c.args.spot.place c.loop-step.invariant.program c.loop-step.invariant.number (omega arith) c.state.ensures.strongest,
     le_held c.loop-step.labels.state c.args.spot.zero _ c.shares.result c.args.spot.buffer (c.on.ensures.label ∙ ap (λ (s : State). label_of s c.args.spot.zero) c.state.ensures.value) c.shares.ensures,
   ),
 )

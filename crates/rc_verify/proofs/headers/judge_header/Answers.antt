@@ -1,43 +1,39 @@
-use Rattle.std.proofs.Common.{◌≡◌, ◌+◌, ◌<◌, ◌∙◌, ℕ, List, get_or, length, map, take, arith, rules}
-use Rattle.rc_lang.specs.declared.program.Thread.{Thread as ThreadPart}
-use Rattle.rc_lang.specs.Parts.{view_items, view_thread}
-use Rattle.rc_lang.specs.Program.{Program, IsItems, IsProgram}
-use Rattle.rc_split.specs.Bags.{TokenOf}
-use Rattle.rc_rules.specs.Labellings.{header_premises}
-use Rattle.rc_rules.specs.Premises.{Tests}
-use Rattle.rc_rules.proofs.Headers.{names_declared, thread_at}
-use Rattle.rc_rules.proofs.Room.{limit_few}
-use Rattle.rc_verify.proofs.Sums.{all_within, held_with}
+use Rattle.std.proofs.Common.{◌≡◌, ◌+◌, ◌∙◌, sym, arith}
+use Rattle.rc_lang.specs.Parts.{view_thread}
+use Rattle.rc_lang.specs.Program.{line_end}
+use Rattle.rc_rules.specs.Labellings.{given_to}
+use Rattle.rc_verify.proofs.Beginning.{thread_is}
+use Rattle.rc_verify.proofs.Sums.{header_told, held_with, now_held, one_or_none, still_within}
 use Rattle.rc_verify.proofs.headers.judge_header.Goals as goal
 
-items_of : (P : Program) (parts : List ThreadPart) (i : ℕ) (d : ThreadPart) → IsProgram P → map view_thread parts ≡ P.threads → i < length P.threads → IsItems P (view_items (get_or parts i d).items)
-items_of P parts i d h e lt = (h.each i _ (thread_at P parts i d e lt)).items
+pub judge_and_hold-requires-clause-alone : goal.judge_and_hold-requires-clause-alone
+judge_and_hold-requires-clause-alone c = λ h.
+    let P = c.args.program.now in
+    let t = view_thread c.index-threads-thread.result in
+    let is = thread_is P c.threads.result.now c.args.thread c.index-threads-thread.result c.threads.ensures.value c.requires.there c.index-threads-thread.is in
+    one_or_none P c.args.thread c.copies_of-copies.result t c.threads.ensures.made is c.copies_of-copies.ensures.value (sym c.may_hold.ensures ∙ h)
 
-pub judge_items-requires-clause-items : goal.judge_items-requires-clause-items
-judge_items-requires-clause-items c = items_of _ _ _ _ c.threads.ensures.made c.threads.ensures.value c.requires.there
+pub judge_and_hold-requires-clause-items : goal.judge_and_hold-requires-clause-items
+judge_and_hold-requires-clause-items c =
+    let P = c.args.program.now in
+    let t = view_thread c.index-threads-thread.result in
+    let is = thread_is P c.threads.result.now c.args.thread c.index-threads-thread.result c.threads.ensures.value c.requires.there c.index-threads-thread.is in
+    (c.threads.ensures.made.each c.args.thread t is).items
 
-pub returns-in_err-judge_items-clause-tests : goal.returns-in_err-judge_items-clause-tests
-returns-in_err-judge_items-clause-tests c =
-    let t : Tests c.judge_items.result (header_premises c.args.program.now (take (c.args.thread + 1) c.args.program.now.threads)) = c.judge_items.ensures _ (held_with _ _ _ c.index-threads-thread.result _ c.threads.ensures.value c.requires.there c.requires.held) in
-    search rules
-
-pub gain-requires-clause-names : goal.gain-requires-clause-names
-gain-requires-clause-names c = rw c.requires.held.of (names_declared _ _ (items_of c.args.program.now _ _ c.index-threads-thread.result c.threads.ensures.made c.threads.ensures.value c.requires.there))
-
-pub gain-requires-clause-once : goal.gain-requires-clause-once
-gain-requires-clause-once c = λ u.
-    let same = held_with _ _ _ c.index-threads-thread.result _ c.threads.ensures.value c.requires.there c.requires.held in
-    omega (arith, same (TokenOf u), (c.in_ok-judge_items.ensures _ same).1.0 (TokenOf u))
-
-pub gain-requires-clause-small : goal.gain-requires-clause-small
-gain-requires-clause-small c = λ p.
-    let same = held_with _ _ _ c.index-threads-thread.result _ c.threads.ensures.value c.requires.there c.requires.held in
-    omega (arith, same p, all_within c.args.program.now _ (c.in_ok-judge_items.ensures _ same) p, limit_few c.args.program.now p c.threads.ensures.made)
+pub judge_and_hold-requires-clause-within : goal.judge_and_hold-requires-clause-within
+judge_and_hold-requires-clause-within c = still_within c.args.program.now _ _ c.requires.held c.requires.within
 
 pub returns-clause-tests : goal.returns-clause-tests
-returns-clause-tests c = c.in_ok-judge_items.ensures _ (held_with _ _ _ c.index-threads-thread.result _ c.threads.ensures.value c.requires.there c.requires.held)
+returns-clause-tests c =
+    let P = c.args.program.now in
+    let t = view_thread c.index-threads-thread.result in
+    let is = thread_is P c.threads.result.now c.args.thread c.index-threads-thread.result c.threads.ensures.value c.requires.there c.index-threads-thread.is in
+    header_told P c.args.thread c.copies_of-copies.result t c.args.held.now c.may_hold.result c.judge_and_hold.result c.threads.ensures.made is c.requires.held c.copies_of-copies.ensures.value c.may_hold.ensures c.judge_and_hold.ensures.judges
 
 pub returns-clause-held : goal.returns-clause-held
 returns-clause-held c =
-    let same = held_with _ _ _ c.index-threads-thread.result _ c.threads.ensures.value c.requires.there c.requires.held in
-    record { of = c.gain.ensures.of ∙ c.requires.held.of; each = λ p. omega (arith, c.gain.ensures.each p, same p) }
+    let P = c.args.program.now in
+    let t = view_thread c.index-threads-thread.result in
+    let is = thread_is P c.threads.result.now c.args.thread c.index-threads-thread.result c.threads.ensures.value c.requires.there c.index-threads-thread.is in
+    let same = held_with P c.args.thread c.copies_of-copies.result t c.args.held.now c.threads.ensures.made is c.requires.held c.copies_of-copies.ensures.value in
+    now_held P c.args.held.now c.judge_and_hold.new.held (given_to P c.args.thread) (given_to P (line_end P.threads c.args.thread)) _ c.judge_and_hold.result c.requires.held same c.judge_and_hold.ensures.held

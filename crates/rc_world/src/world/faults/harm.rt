@@ -54,7 +54,7 @@ impl<'a> World<'a> {
 
     // Whether the next statement of a thread, which has these lines, is harmful.
     fn harms_next(&self, thread: u32, lines: &[Line]) -> bool
-        requires few { thread ≤ 16 }
+        requires few { thread ≤ 64 }
         requires lines { lines.now ≡ lines_of self.now.program thread }
         ensures { result ≡ harm.harms_at self.now thread (harm.line_of self.now thread) }
     {
@@ -69,7 +69,7 @@ impl<'a> World<'a> {
 
     // Most statements can do no harm: their kind says so, and they aren't copied.
     fn is_harmful(&self, thread: u32, stmt: &Stmt) -> bool
-        requires { thread ≤ 16 }
+        requires { thread ≤ 64 }
         ensures { result ≡ harm.is_harmful self.now thread stmt.now }
     {
         match *stmt {
@@ -88,7 +88,7 @@ impl<'a> World<'a> {
     // Not inlined, so that nothing is made ready for it where a statement can do no harm.
     #[inline(never)]
     fn harms(&self, thread: u32, stmt: &Stmt) -> bool
-        requires { thread ≤ 16 }
+        requires { thread ≤ 64 }
         ensures { result ≡ harm.is_harmful self.now thread stmt.now }
     {
         self.harms_buffer(thread, access_of(*stmt))
@@ -100,7 +100,7 @@ impl<'a> World<'a> {
 
     // Whether it is harmful what the next statement of a thread does with a buffer.
     fn harms_buffer(&self, thread: u32, access: Option<Access>) -> bool
-        requires { thread ≤ 16 }
+        requires { thread ≤ 64 }
         ensures { result ≡ harm.harms_buffer self.now thread (option_map view_access access) }
     {
         match access {
