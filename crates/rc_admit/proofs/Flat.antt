@@ -13,7 +13,9 @@ use Rattle.rc_lang.specs.declared.lines.Stmt.TheVariants.{Do, Put, Lock, EndLock
 use Rattle.rc_lang.specs.declared.lines.Test.{Test}
 use Rattle.rc_lang.specs.Locks.{no_lock, with_locks, without_locks}
 use Rattle.rc_lang.specs.Nesting.{blocks_at, in_peek, locks_in}
-use Rattle.rc_lang.specs.Program.{HasArms, IsProgram, Items, Program, Thread, end_at, ends_in, items_at, lines_of, lists_of, stmt_at, stmt_of}
+use Rattle.rc_lang.specs.Program.{Items, Program, Thread, end_at, ends_in, items_at, lines_of, lists_of, stmt_at, stmt_of}
+use Rattle.rc_lang.specs.Kept.{IsProgram}
+use Rattle.rc_lang.specs.Resolved.{HasArms}
 use Rattle.rc_lang.proofs.Along.{locks_next, locks_pushed, same_locks}
 use Rattle.rc_lang.proofs.Closing.{AreAmong, closes_arm, closes_if, closes_lock, closes_loop, leaves_loop, turns as turns_here}
 use Rattle.rc_lang.proofs.Fitting.{peek_found, placed_at}

@@ -3,7 +3,8 @@ use Rattle.std.proofs.Common.{◌≡◌, ℕ, suc, ◌+◌, ◌<◌, ◌≤◌, 
 use Rattle.std.specs.Prelude.{ℤ, pos, IfSome, replicate, slice_get}
 use Rattle.std.specs.Ordering.{int_eq}
 use Rattle.std.proofs.lemmas.List.{get_or-replicate, length-replicate}
-use Rattle.rc_lang.specs.Program.{IsProgram, Program, Thread, line_end, lines_in, lines_of, lists_in}
+use Rattle.rc_lang.specs.Program.{Program, Thread, line_end, lines_in, lines_of, lists_in}
+use Rattle.rc_lang.specs.Kept.{IsProgram}
 use Rattle.rc_rules.specs.Labels.{Live, Weaker}
 use Rattle.rc_rules.specs.Sides.{on}
 use Rattle.rc_rules.specs.Labellings.{Accepts, IsGood, given_to_pools, header_premises, may_hold, headers_bag, label_at, start_of}

@@ -4,7 +4,8 @@ use Rattle.std.proofs.lemmas.Bool.{eq-eqb}
 use Rattle.std.specs.Prelude.{nat_eq, slice_get, ℤ, pos, if◌then◌else◌}
 use Rattle.rc_lang.specs.declared.lines.Line.{Line}
 use Rattle.rc_lang.specs.declared.request.Request.{Request}
-use Rattle.rc_lang.specs.Program.{IsProgram, Program, lines_of, stmt_of}
+use Rattle.rc_lang.specs.Program.{Program, lines_of, stmt_of}
+use Rattle.rc_lang.specs.Kept.{IsProgram}
 use Rattle.rc_lang.specs.Requests.{may_complete}
 use Rattle.rc_rules.specs.declared.mode.Peeked.{Peeked}
 use Rattle.rc_rules.specs.declared.mode.Peeked.TheVariants.{Unseen, Sees, SeesOther, Got}

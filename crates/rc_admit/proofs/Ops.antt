@@ -9,7 +9,8 @@ use Rattle.rc_lang.specs.declared.lines.Op.TheVariants.{Set, Load, Store, Fill, 
 use Rattle.rc_lang.specs.declared.program.TokenKind.{TokenKind}
 use Rattle.rc_lang.specs.declared.program.TokenKind.TheVariants as tokens
 use Rattle.rc_lang.specs.declared.request.Request.{Request}
-use Rattle.rc_lang.specs.Program.{IsProgram, Program, shares_at}
+use Rattle.rc_lang.specs.Program.{Program, shares_at}
+use Rattle.rc_lang.specs.Kept.{IsProgram}
 use Rattle.rc_rules.specs.declared.mode.Mode.{Mode}
 use Rattle.rc_rules.specs.declared.mode.Peeked.{Peeked}
 use Rattle.rc_rules.specs.declared.mode.Peeked.TheVariants.{Unseen, Sees, SeesOther, Got}

@@ -5,7 +5,8 @@ use Rattle.std.proofs.lemmas.Bool.{and_from, cases_order, eqb-true, le-leb, or_c
 use Rattle.std.proofs.lemmas.List.{get_or_past}
 use Rattle.std.proofs.lemmas.List.Elements.{All-get_or, All-nil}
 use Rattle.rc_lang.specs.declared.program.Share.{Share}
-use Rattle.rc_lang.specs.Program.{IsItems, IsList, IsProgram, Items, Program, Thread, items_at, lists_in, lists_of, no_items}
+use Rattle.rc_lang.specs.Program.{Items, Program, Thread, items_at, lists_in, lists_of, no_items}
+use Rattle.rc_lang.specs.Kept.{IsItems, IsList, IsProgram}
 use Rattle.rc_split.specs.Bags.{Part, ShareOf, TokenOf, Credit, bag_of}
 use Rattle.rc_split.specs.Pools.{all_of, fits, overfills}
 use Rattle.rc_split.proofs.Named.{all_tested, true_not}

@@ -13,7 +13,8 @@ use Rattle.rc_lang.specs.declared.request.Kind.{Kind}
 use Rattle.rc_lang.specs.declared.request.Kind.TheVariants.{Nop, Fsync, Read, Write, Other}
 use Rattle.rc_lang.specs.declared.request.Request.{Request}
 use Rattle.rc_lang.specs.Kinds.{is_one_kind, kinds_in}
-use Rattle.rc_lang.specs.Program.{IsProgram, IsTokenKind, Program, token_place}
+use Rattle.rc_lang.specs.Program.{Program, token_place}
+use Rattle.rc_lang.specs.Kept.{IsProgram, IsTokenKind}
 use Rattle.rc_rules.specs.declared.mode.Slot.{Slot}
 use Rattle.rc_rules.specs.declared.mode.Slot.TheVariants.{Prepared}
 use Rattle.rc_rules.specs.Kinds.{kind_bag, kinds_at, kinds_of, least_of, line_bag, token_at}

@@ -1,7 +1,8 @@
 -- Every world of every weak run is well owned, over any claim of how a thread may stand that has the edge law.
 use Rattle.std.proofs.Common.{ℕ, ◌≤◌, List, [], ◌∷◌, subst, sym, inl, inr}
 use Rattle.std.specs.Prelude.{ℤ}
-use Rattle.rc_lang.specs.Program.{IsProgram, Program}
+use Rattle.rc_lang.specs.Program.{Program}
+use Rattle.rc_lang.specs.Kept.{IsProgram}
 use Rattle.rc_rules.specs.declared.mode.Mode.{Mode}
 use Rattle.rc_rules.specs.Labellings.{Accepts, headers_bag}
 use Rattle.rc_rules.specs.Rules.{limit}

@@ -6,7 +6,8 @@ use Rattle.std.specs.Prelude.{nat_eq, slice_get}
 use Rattle.rc_lang.specs.declared.program.TokenKind.{TokenKind}
 use Rattle.rc_lang.specs.declared.program.TokenKind.TheVariants.{Read, Write, Fsync, Nop, Other}
 use Rattle.rc_lang.specs.declared.request.Request.{Request}
-use Rattle.rc_lang.specs.Program.{IsProgram, IsTokenKind, Program, no_buffer, shares_at}
+use Rattle.rc_lang.specs.Program.{Program, no_buffer, shares_at}
+use Rattle.rc_lang.specs.Kept.{IsProgram, IsTokenKind}
 use Rattle.rc_rules.specs.Kinds.{kind_bag}
 use Rattle.rc_split.specs.Bags.{ShareOf, TokenOf, shares_bag}
 use Rattle.rc_world.specs.Faults.{clash, clashes, clashes_with, has_buffer, has_data, names}

@@ -14,7 +14,8 @@ use Rattle.rc_lang.specs.declared.lines.Stmt.TheVariants.{Do, Put, Lock, EndLock
 use Rattle.rc_lang.specs.declared.lines.Test.{Test}
 use Rattle.rc_lang.specs.declared.lines.Test.TheVariants.{Compare, ReadyZero, SpaceAtLeast, Take, Any}
 use Rattle.rc_lang.proofs.Closing.{AreAmong}
-use Rattle.rc_lang.specs.Program.{IsItems, IsProgram, Items, Program, end_at, items_at, lists_of}
+use Rattle.rc_lang.specs.Program.{Items, Program, end_at, items_at, lists_of}
+use Rattle.rc_lang.specs.Kept.{IsItems, IsProgram}
 use Rattle.rc_rules.specs.declared.mode.Mode.{Mode}
 use Rattle.rc_rules.specs.declared.mode.Peeked.{Peeked}
 use Rattle.rc_rules.specs.declared.mode.Peeked.TheVariants.{Unseen, Sees, SeesOther, Got}

@@ -1,5 +1,6 @@
 -- What is promised of accepted programs.
-use Rattle.rc_lang.specs.Program.{IsProgram, Program}
+use Rattle.rc_lang.specs.Program.{Program}
+use Rattle.rc_lang.specs.Kept.{IsProgram}
 use Rattle.rc_rules.specs.Labellings.{Accepts}
 use Rattle.rc_world.specs.Runs.{IsSafe}
 use Rattle.rc_world.specs.WeakRuns.{IsWeaklySafe}

@@ -9,7 +9,8 @@ use Rattle.rc_lang.specs.declared.lines.Test.TheVariants.{ReadyZero, SpaceAtLeas
 use Rattle.rc_lang.specs.declared.request.Kind.TheVariants.{Read, Write}
 use Rattle.rc_lang.specs.declared.request.Request.{Request}
 use Rattle.rc_lang.specs.declared.program.Share.{Share}
-use Rattle.rc_lang.specs.Program.{IsProgram, Items, Program, bytes_at, lines_of, shares_at, stmt_at}
+use Rattle.rc_lang.specs.Program.{Items, Program, bytes_at, lines_of, shares_at, stmt_at}
+use Rattle.rc_lang.specs.Kept.{IsProgram}
 use Rattle.rc_rules.specs.Labellings.{Accepts}
 use Rattle.rc_split.specs.Bags.{ShareOf, TokenOf, Credit, bag_of}
 use Rattle.rc_split.specs.Pools.{Pools, all_pooled}

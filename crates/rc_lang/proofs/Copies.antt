@@ -1,7 +1,8 @@
 -- The copies of a line stand one behind another, and have one text.
-use Rattle.std.proofs.Common.{◌≡◌, ℕ, zero, suc, ◌+◌, ◌<◌, ◌≤◌, Bool, true, false, cond, List, [], ◌∷◌, length, drop, Option, Some, None, slice_get, refl, sym, ap, ◌∙◌, subst, arith}
+use Rattle.std.proofs.Common.{◌≡◌, ℕ, zero, suc, ◌+◌, ◌<◌, ◌≤◌, Bool, true, false, cond, List, [], ◌∷◌, drop, Some, None, slice_get, refl, sym, ap, ◌∙◌, subst, arith}
 use Rattle.std.proofs.lemmas.Bool.{lt-ltb}
-use Rattle.rc_lang.specs.Program.{IsNextCopy, IsProgram, Program, Thread, further_copies, is_further, line_end}
+use Rattle.rc_lang.specs.Program.{Program, Thread, further_copies, is_further, line_end}
+use Rattle.rc_lang.specs.Kept.{IsNextCopy, IsProgram}
 
 -- ---- look-ups behind a place
 

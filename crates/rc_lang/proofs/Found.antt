@@ -7,7 +7,8 @@ use Rattle.std.proofs.lemmas.List.{get_or-map, length-map}
 use Rattle.std.proofs.lemmas.List.Sums.{position_or_len_is}
 use Rattle.std.proofs.lemmas.Map.Keys.{apart_from_distinct}
 use Rattle.rc_lang.specs.declared.program.Token.{Token}
-use Rattle.rc_lang.specs.Program.{Program, IsProgram, token_place}
+use Rattle.rc_lang.specs.Program.{Program, token_place}
+use Rattle.rc_lang.specs.Kept.{IsProgram}
 
 found_there : (tokens : List Token) (u k : ℕ) (d : Token) → IsDistinct nat_eq (map (λ (t : Token). t.user_data) tokens) → k < length tokens → (get_or tokens k d).user_data ≡ u → position (λ (t : Token). nat_eq t.user_data u) tokens ≡ Some k
 found_there tokens u k d distinct lt e = rw (at, le-leb _ _ lt) refl

@@ -8,7 +8,8 @@ use Rattle.rc_lang.specs.declared.lines.Stmt.{Stmt}
 use Rattle.rc_lang.specs.declared.lines.Stmt.TheVariants.{Do, Put, EndLock, If, Else, EndIf, Peek, Case, Other, Nothing, EndArm, EndPeek, Loop, EndLoop, Break}
 use Rattle.rc_lang.specs.declared.lines.Test.{Test}
 use Rattle.rc_lang.specs.Nesting.{blocks_at, blocks_behind, directly_in_peek, innermost, IsNestedIn, without_innermost}
-use Rattle.rc_lang.specs.Program.{HasArms, HasEnd, IsLinked, stmt_at}
+use Rattle.rc_lang.specs.Program.{stmt_at}
+use Rattle.rc_lang.specs.Resolved.{HasArms, HasEnd, IsLinked}
 use Rattle.rc_lang.proofs.Closing.{OpensArm, closes_arm, closes_if, closes_loop, closes_peek, leaves_loop, opens_case, opens_nothing, opens_other, turns}
 use Rattle.rc_lang.proofs.Fitting.{FitsIn, fits_in}
 use Rattle.rc_lang.proofs.Lookups.{EachNested, blocks_next, directly_pushed, nested_here, not_directly, stands_within}

@@ -1,13 +1,12 @@
 -- The names of threads: with a copy's number and without.
-use Rattle.std.proofs.Common.{◌≡◌, ℕ, zero, suc, ◌+◌, ◌^◌, ◌<◌, ◌≤◌, Bool, true, false, cond, not, ◌&&◌, ◌||◌, ◌==◌, nat_le, List, [], ◌∷◌, ◌++◌, length, take, Option, Some, None, codes, refl, sym, ap, ◌∙◌, subst, arith}
+use Rattle.std.proofs.Common.{◌≡◌, ℕ, ◌+◌, ◌<◌, true, false, cond, not, List, [], ◌∷◌, ◌++◌, length, take, Option, Some, None, codes, refl, sym, ap, ◌∙◌, arith}
 use Rattle.std.specs.Prelude.{decimal}
-use Rattle.std.specs.List.{list_all, position_or_len, prefix_len}
-use Rattle.std.proofs.lemmas.Bool.{and_parts, eqb-true, leb-true}
+use Rattle.std.specs.List.{prefix_len}
+use Rattle.std.proofs.lemmas.Bool.{and_parts}
 use Rattle.std.proofs.lemmas.Fmt.{decimal_injective}
 use Rattle.std.proofs.lemmas.List.{append-nil, append_cancel_left, append_cancel_right}
 use Rattle.std.proofs.lemmas.List.Folds.{prefix_len-append}
-use Rattle.rc_lang.specs.Names.{all_name_bytes, before_bracket, is_bracket, is_lower, is_name, is_name_byte, is_reserved, is_spelt, numbered}
-use Rattle.rc_lang.specs.Numbers.{is_digit}
+use Rattle.rc_lang.specs.Names.{all_name_bytes, before_bracket, is_bracket, is_name, is_name_byte, is_reserved, is_spelt, numbered}
 use Rattle.rc_lang.proofs.Lookups.{take_front}
 
 -- ---- a name has no bracket

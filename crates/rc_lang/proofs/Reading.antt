@@ -1,5 +1,5 @@
 -- Lines and lists that are read at the values of variables: what that keeps, and that it changes nothing where no name has a row.
-use Rattle.std.proofs.Common.{ℕ, ℤ, ◌≡◌, ◌<◌, List, length, get_or, Option, Some, None, option_map, slice_get, refl, sym, ap, ◌∙◌, subst, All, map, arith}
+use Rattle.std.proofs.Common.{ℕ, ℤ, ◌≡◌, ◌<◌, List, length, get_or, Option, Some, None, option_map, slice_get, refl, sym, ap, ◌∙◌, subst, map, arith}
 use Rattle.std.proofs.lemmas.List.{map-id}
 use Rattle.std.proofs.lemmas.Option.{same_Some, slice_get-get_or, slice_get-map}
 use Rattle.rc_lang.specs.declared.lines.Line.{Line}
@@ -9,7 +9,8 @@ use Rattle.rc_lang.specs.declared.lines.Stmt.{Stmt}
 use Rattle.rc_lang.specs.declared.lines.Stmt.TheVariants.{Do}
 use Rattle.rc_lang.specs.declared.program.Thread.{Thread as ThreadPart}
 use Rattle.rc_lang.specs.Parts.{view_rows, view_thread}
-use Rattle.rc_lang.specs.Program.{IsProgram, Items, Program, Rows, Thread, items_at, line_at, lines_in, lines_of, lists_of, no_rows, rows_in, rows_of, stmt_at, stmt_of}
+use Rattle.rc_lang.specs.Program.{Items, Program, Rows, Thread, items_at, line_at, lines_in, lines_of, lists_of, no_rows, rows_in, rows_of, stmt_at, stmt_of}
+use Rattle.rc_lang.specs.Kept.{IsProgram}
 use Rattle.rc_lang.specs.Rows.{AreSmall, line_read_at, list_read_at, read_items, read_line, read_op, read_stmt}
 
 found : {A : Type 0} (xs : List A) (k : ℕ) (x : A) → k < length xs → x ≡ get_or xs k x → slice_get xs k ≡ Some x

@@ -5,7 +5,8 @@ use Rattle.rc_lang.specs.declared.lines.Line.{Line}
 use Rattle.rc_lang.specs.declared.lines.Stmt.{Stmt}
 use Rattle.rc_lang.specs.declared.lines.Stmt.TheVariants.{Else, EndIf, Case, Other, Nothing, EndArm, EndPeek}
 use Rattle.rc_lang.specs.Nesting.{blocks_at, directly_in_peek, innermost, is_some_peek}
-use Rattle.rc_lang.specs.Program.{IsProgram, IsThread, Program, Thread, ends_in, lines_in, lines_of, stmt_at}
+use Rattle.rc_lang.specs.Program.{Program, Thread, ends_in, lines_in, lines_of, stmt_at}
+use Rattle.rc_lang.specs.Kept.{IsProgram, IsThread}
 use Rattle.rc_lang.proofs.Closing.{closes_arm, closes_if, turns}
 use Rattle.rc_lang.proofs.Jumps.{IsLaid, IsOpen, arm_leads, arm_open, else_leads, else_open, open_behind, open_start}
 use Rattle.rc_lang.proofs.Lookups.{nested_here, past_the_end}

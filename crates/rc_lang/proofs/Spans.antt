@@ -8,7 +8,8 @@ use Rattle.rc_lang.specs.declared.lines.Line.{Line}
 use Rattle.rc_lang.specs.declared.lines.Stmt.{Stmt}
 use Rattle.rc_lang.specs.declared.lines.Stmt.TheVariants.{Do, Put, Lock, EndLock, If, Else, EndIf, Peek, Case, Other, Nothing, EndArm, EndPeek, Loop, EndLoop, Break}
 use Rattle.rc_lang.specs.Nesting.{blocks_at, blocks_behind, without_innermost}
-use Rattle.rc_lang.specs.Program.{HasArms, stmt_at}
+use Rattle.rc_lang.specs.Program.{stmt_at}
+use Rattle.rc_lang.specs.Resolved.{HasArms}
 use Rattle.rc_lang.proofs.Closing.{OpensArm, closes_peek, opens_case, opens_nothing, opens_other}
 use Rattle.rc_lang.proofs.Jumps.{IsLaid}
 use Rattle.rc_lang.proofs.Lookups.{EachNested, blocks_past, blocks_suc, get_new, get_push, stands_at}

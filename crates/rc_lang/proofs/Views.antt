@@ -2,7 +2,8 @@
 use Rattle.std.proofs.Common.{◌≡◌, ℕ, Some, get_or, slice_get, ap, ◌∙◌}
 use Rattle.std.proofs.lemmas.Option.{slice_get-get_or}
 use Rattle.rc_lang.specs.declared.view.View.{View}
-use Rattle.rc_lang.specs.Program.{IsProgram, IsThread, Program, Thread}
+use Rattle.rc_lang.specs.Program.{Program, Thread}
+use Rattle.rc_lang.specs.Kept.{IsProgram, IsThread}
 use Rattle.rc_lang.specs.Views.{IsView, seen, view_of}
 
 -- as its declarations name its parts

@@ -1,4 +1,5 @@
 pub mod Comparisons
+pub mod Kept
 pub mod Kinds
 pub mod Locks
 pub mod Names
@@ -7,5 +8,6 @@ pub mod Numbers
 pub mod Parts
 pub mod Program
 pub mod Requests
+pub mod Resolved
 pub mod Views
 pub mod Rows

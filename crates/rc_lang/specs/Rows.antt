@@ -1,5 +1,5 @@
 -- What the names in a thread's lines stand for at the values of its variables. A name without a row stands for itself.
-use Rattle.std.specs.Prelude.{ℕ, ◌+◌, ◌≤◌, Bool, true, false, ◌&&◌, if◌then◌else◌, List, [], map, length, Option, Some, None, option_map, nat_eq, nat_lt, slice_get, slice_index_or, ℤ, pos, negsuc, All}
+use Rattle.std.specs.Prelude.{ℕ, ◌+◌, ◌≤◌, Bool, true, false, ◌&&◌, if◌then◌else◌, List, map, length, Option, Some, None, option_map, nat_eq, nat_lt, slice_get, slice_index_or, ℤ, pos, negsuc, All}
 use Rattle.std.specs.List.{list_all}
 use Rattle.rc_lang.specs.declared.lines.Line.{Line}
 use Rattle.rc_lang.specs.declared.lines.Op.{Op}

@@ -4,7 +4,9 @@ use Rattle.std.specs.List.{IsDistinct}
 use Rattle.rc_lang.specs.declared.program.Token.{Token}
 use Rattle.rc_lang.specs.declared.view.View.{View}
 use Rattle.rc_lang.specs.Kinds.{kinds_in}
-use Rattle.rc_lang.specs.Program.{Buffer, Program, Stock, Thread, IsRingSize, IsTokenKind}
+use Rattle.rc_lang.specs.Program.{Buffer, Program, Stock, Thread}
+use Rattle.rc_lang.specs.Kept.{IsTokenKind}
+use Rattle.rc_lang.specs.Resolved.{IsRingSize}
 
 -- The program as the lines of thread i name its parts. Each thread names them as they are declared.
 abbrev pub view_of : Program → ℕ → Program

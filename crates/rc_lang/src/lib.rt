@@ -6,6 +6,7 @@
 #![tactic(auto)]
 
 pub mod lines;
+pub mod look_up;
 pub mod names;
 pub mod numbers;
 pub mod program;

@@ -12,7 +12,8 @@ use Rattle.rc_lang.specs.declared.program.TokenKind.{TokenKind}
 use Rattle.rc_lang.specs.declared.program.TokenKind.TheVariants as kind
 use Rattle.rc_lang.specs.Kinds.{kinds_in}
 use Rattle.rc_lang.specs.Nesting.{Way, directly_in_peek, in_peek, innermost, is_some_peek, locks_in, way_out}
-use Rattle.rc_lang.specs.Program.{Buffer as BufferOf, IsOfPool, IsProgram, Items, IsTokenKind, Program, Stock as StockOf, Thread as ThreadOf, line_numbers, stock_numbers}
+use Rattle.rc_lang.specs.Program.{Buffer as BufferOf, Items, Program, Stock as StockOf, Thread as ThreadOf}
+use Rattle.rc_lang.specs.Kept.{IsOfPool, IsProgram, IsTokenKind, line_numbers, stock_numbers}
 use Rattle.rc_read.specs.declared.parts.Region.{Region}
 use Rattle.rc_read.specs.declared.parts.Region.TheVariants.{Start, Second, Declarations, InThread, Between}
 use Rattle.rc_read.specs.declared.says.Says.{Says}

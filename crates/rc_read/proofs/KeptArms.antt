@@ -10,7 +10,8 @@ use Rattle.rc_lang.specs.declared.lines.Line.{Line}
 use Rattle.rc_lang.specs.declared.lines.Stmt.{Stmt}
 use Rattle.rc_lang.specs.declared.lines.Stmt.TheVariants.{Do, Put, Lock, EndLock, If, Else, EndIf, Peek, Case, Other, Nothing, EndArm, EndPeek, Loop, EndLoop, Break}
 use Rattle.rc_lang.specs.Nesting.{blocks_at, blocks_behind, in_peek, innermost, is_peek, IsNestedIn, without_innermost}
-use Rattle.rc_lang.specs.Program.{IsAhead, stmt_at}
+use Rattle.rc_lang.specs.Program.{stmt_at}
+use Rattle.rc_lang.specs.Resolved.{IsAhead}
 use Rattle.rc_lang.proofs.Closing.{opens_case, opens_nothing, opens_other}
 use Rattle.rc_lang.proofs.Fitting.{one_peek}
 use Rattle.rc_lang.proofs.Lookups.{EachNested, innermost_split, stands_within, stmt_new, stmt_old, stmt_push}

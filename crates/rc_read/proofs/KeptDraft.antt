@@ -13,7 +13,9 @@ use Rattle.rc_lang.specs.declared.lines.Stmt.TheVariants.{Do, Put, Lock, EndLock
 use Rattle.rc_lang.specs.declared.lines.Test.TheVariants.{Take}
 use Rattle.rc_lang.specs.Names.{is_name}
 use Rattle.rc_lang.specs.Nesting.{blocks_at, blocks_behind, innermost, IsNestedIn, locks_in, without_innermost}
-use Rattle.rc_lang.specs.Program.{IsFlag, IsItems, IsList, IsOfPool, IsResolved, IsThread, Items, Program, items_at, no_items, no_more, stmt_at}
+use Rattle.rc_lang.specs.Program.{Items, Program, items_at, no_items, no_more, stmt_at}
+use Rattle.rc_lang.specs.Kept.{IsFlag, IsItems, IsList, IsOfPool, IsThread}
+use Rattle.rc_lang.specs.Resolved.{IsResolved}
 use Rattle.rc_lang.proofs.Lookups.{EachNested, blocks_new, blocks_old, nested_more, nested_start, stands_within, stmt_push}
 use Rattle.rc_lang.proofs.Placed.{ArePlaced, placed, placed_innermost}
 use Rattle.rc_read.specs.declared.values.Item.{Item}

@@ -3,7 +3,8 @@ use Rattle.std.proofs.Common.{◌≡◌, ℕ, ◌<◌, ◌≤◌, Bool, true, fa
 use Rattle.std.specs.List.{IsDistinct}
 use Rattle.std.proofs.lemmas.Bool.{or_parts, not-false}
 use Rattle.std.proofs.lemmas.Map.Keys.{IsDistinct-from_apart}
-use Rattle.rc_lang.specs.Program.{DeclaresToken, Thread as ThreadOf}
+use Rattle.rc_lang.specs.Program.{Thread as ThreadOf}
+use Rattle.rc_lang.specs.Resolved.{DeclaresToken}
 use Rattle.rc_lang.specs.Numbers.{number_of}
 use Rattle.rc_read.specs.declared.table.Part.TheVariants.{Buffer, Flag, HeldShares, HeldToken, Credits as CreditsPart, Queued as QueuedPart}
 use Rattle.rc_read.specs.declared.values.Item.{Item}

@@ -9,7 +9,8 @@ use Rattle.rc_lang.specs.declared.lines.Line.{Line}
 use Rattle.rc_lang.specs.declared.lines.Stmt.{Stmt}
 use Rattle.rc_lang.specs.declared.lines.Stmt.TheVariants.{Do, Put, Lock, EndLock, If, Else, EndIf, Peek, Case, Other, Nothing, EndArm, EndPeek, Loop, EndLoop, Break}
 use Rattle.rc_lang.specs.Nesting.{blocks_behind, innermost, IsNestedIn, without_innermost}
-use Rattle.rc_lang.specs.Program.{HasEnd, IsAhead, IsFirst, IsLinked, stmt_at}
+use Rattle.rc_lang.specs.Program.{stmt_at}
+use Rattle.rc_lang.specs.Resolved.{HasEnd, IsAhead, IsFirst, IsLinked}
 use Rattle.rc_lang.proofs.Closing.{way_out_found}
 use Rattle.rc_lang.proofs.Lookups.{innermost_split, stands_within, stmt_new, stmt_old, stmt_push}
 use Rattle.rc_lang.proofs.Placed.{ArePlaced, placed_innermost}

@@ -6,7 +6,9 @@ use Rattle.std.proofs.lemmas.Cmp.{nat_eq_equiv}
 use Rattle.std.proofs.lemmas.Iterator.Adapters.{position_from-zero}
 use Rattle.std.proofs.lemmas.List.Elements.{All-nil, All-cons}
 use Rattle.std.proofs.lemmas.Map.Keys.{IsDistinct-cons}
-use Rattle.rc_lang.specs.Program.{DeclaresToken, IsItems, IsList, More, Program, Thread as ThreadOf, no_more}
+use Rattle.rc_lang.specs.Program.{More, Program, Thread as ThreadOf, no_more}
+use Rattle.rc_lang.specs.Kept.{IsItems, IsList}
+use Rattle.rc_lang.specs.Resolved.{DeclaresToken}
 use Rattle.rc_lang.specs.declared.program.Share.{Share}
 use Rattle.rc_read.specs.declared.values.Item.{Item}
 use Rattle.rc_read.specs.declared.values.Item.TheVariants.{Shares, Token, Credits, Queued, When}

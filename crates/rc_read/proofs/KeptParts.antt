@@ -20,7 +20,8 @@ use Rattle.rc_lang.specs.declared.program.TokenKind.{TokenKind}
 use Rattle.rc_lang.specs.declared.program.TokenKind.TheVariants.{Read, Write, Fsync, Nop, Other}
 use Rattle.rc_lang.specs.Kinds.{is_one_kind, kinds_in}
 use Rattle.rc_lang.specs.Names.{before_bracket, is_name, numbered}
-use Rattle.rc_lang.specs.Program.{Buffer, FollowsCopy, IsBuffer, IsFile, IsThread, Program, Thread, is_further, line_numbers, no_buffer, numbers_from, own_numbers, shares_at}
+use Rattle.rc_lang.specs.Program.{Buffer, Program, Thread, is_further, no_buffer, shares_at}
+use Rattle.rc_lang.specs.Kept.{FollowsCopy, IsBuffer, IsFile, IsThread, line_numbers, numbers_from, own_numbers}
 use Rattle.rc_lang.proofs.Lookups.{get_new, get_old, get_push}
 use Rattle.rc_lang.proofs.Named.{before_numbered, one_number}
 use Rattle.rc_lang.proofs.Rising.{rises_more}

@@ -7,7 +7,8 @@ use Rattle.rc_lang.specs.declared.lines.Operand.TheVariants.{Variable, Number}
 use Rattle.rc_lang.specs.declared.lines.Stmt.{Stmt}
 use Rattle.rc_lang.specs.declared.lines.Stmt.TheVariants.{Do, Put, If, Peek, Loop, EndLoop}
 use Rattle.rc_lang.specs.declared.lines.Test.TheVariants.{Compare, Take}
-use Rattle.rc_lang.specs.Program.{IsOperand, IsResolved, IsResolvedOp, Program}
+use Rattle.rc_lang.specs.Program.{Program}
+use Rattle.rc_lang.specs.Resolved.{IsOperand, IsResolved, IsResolvedOp}
 
 module _ (p : Program) (m n a b : ℕ) (more : m ≤ n) (lists : a ≤ b) where
   below : (x : ℕ) → x < m → x < n

@@ -10,7 +10,9 @@ use Rattle.rc_lang.specs.Kinds.{kinds_in}
 use Rattle.rc_lang.specs.Locks.{is_some_lock}
 use Rattle.rc_lang.specs.Names.{before_bracket, from_bracket, is_name}
 use Rattle.rc_lang.specs.Numbers.{number_of}
-use Rattle.rc_lang.specs.Program.{AreTaken, DeclaresPool, DeclaresToken, IsFile, IsItems, IsList, IsOperand, IsResolvedOp, IsResolvedTest, IsRingSize, Thread as ThreadOf}
+use Rattle.rc_lang.specs.Program.{Thread as ThreadOf}
+use Rattle.rc_lang.specs.Kept.{IsFile, IsItems, IsList}
+use Rattle.rc_lang.specs.Resolved.{AreTaken, DeclaresPool, DeclaresToken, IsOperand, IsResolvedOp, IsResolvedTest, IsRingSize}
 use Rattle.rc_read.specs.declared.says.Rings.{Rings}
 use Rattle.rc_read.specs.declared.says.Says.{Says}
 use Rattle.rc_read.specs.declared.says.Says.TheVariants as says

@@ -5,7 +5,8 @@ use Rattle.std.proofs.lemmas.Bool.{and_parts, not-false}
 use Rattle.rc_lang.specs.declared.lines.Block.{Block}
 use Rattle.rc_lang.specs.declared.lines.Block.TheVariants.{InLock, InIf, InElse, InPeek, InArm, InLoop}
 use Rattle.rc_lang.specs.Nesting.{innermost, is_some_peek}
-use Rattle.rc_lang.specs.Program.{Program, Thread as ThreadOf, line_numbers, numbers_from, stock_numbers}
+use Rattle.rc_lang.specs.Program.{Program, Thread as ThreadOf}
+use Rattle.rc_lang.specs.Kept.{line_numbers, numbers_from, stock_numbers}
 use Rattle.rc_lang.proofs.Lookups.{nothing_open}
 use Rattle.rc_read.specs.declared.parts.Region.{Region}
 use Rattle.rc_read.specs.declared.parts.Region.TheVariants.{Start, Second, Declarations, InThread, Between}

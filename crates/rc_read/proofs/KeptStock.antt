@@ -6,7 +6,9 @@ use Rattle.std.proofs.lemmas.List.{get_or_append_left, map_push}
 use Rattle.std.proofs.lemmas.List.Elements.{All-nil, All-push, All-weaker}
 use Rattle.rc_lang.specs.declared.program.Share.{Share}
 use Rattle.rc_lang.specs.declared.program.Token.{Token}
-use Rattle.rc_lang.specs.Program.{DeclaresPool, DeclaresToken, IsEachPoolOnce, IsItems, IsOfPool, IsStock, Items, Program, Stock, stock_numbers}
+use Rattle.rc_lang.specs.Program.{Items, Program, Stock}
+use Rattle.rc_lang.specs.Kept.{IsEachPoolOnce, IsItems, IsOfPool, IsStock, stock_numbers}
+use Rattle.rc_lang.specs.Resolved.{DeclaresPool, DeclaresToken}
 use Rattle.rc_lang.proofs.Lookups.{get_push}
 use Rattle.rc_read.specs.Sheets.{has_unnamed}
 use Rattle.rc_read.proofs.KeptParts.{RiseTo, one_more, rise_more, rise_none, rise_on}

@@ -8,7 +8,8 @@ use Rattle.rc_lang.specs.declared.lines.Operand.TheVariants as operand
 use Rattle.rc_lang.specs.declared.program.File.{File as FileOf}
 use Rattle.rc_lang.specs.declared.program.Token.{Token as TokenOf}
 use Rattle.rc_lang.specs.Numbers.{is_number, number_of, value_of}
-use Rattle.rc_lang.specs.Program.{Buffer as BufferOf, DeclaresFile, DeclaresToken, IsOperand, Program, Thread as ThreadOf, shares_at}
+use Rattle.rc_lang.specs.Program.{Buffer as BufferOf, Program, Thread as ThreadOf, shares_at}
+use Rattle.rc_lang.specs.Resolved.{DeclaresFile, DeclaresToken, IsOperand}
 use Rattle.rc_read.specs.declared.table.Part.{Part}
 use Rattle.rc_read.specs.declared.table.Part.TheVariants.{Fixed, Variable, Operand, Number, File, Buffer, Token, Pool, NewFile, NewBuffer, NewToken, NewPool, NewThread, NewThreads, Items, Kinds}
 use Rattle.rc_read.specs.declared.table.Range.TheVariants.{Within, Size, CompletionSize, Rounded, Entries, Shares}

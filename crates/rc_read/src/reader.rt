@@ -2,7 +2,7 @@
 
 ghost use Rattle.std.specs.Prelude.{◌≡◌, ◌+◌, ◌++◌, ◌∷◌, ◌↔◌, [], List, ℕ, None, Some, Err, IsSome, length};
 ghost use Rattle.memchr.specs.Find.{Nowhere, Passes, is_byte};
-ghost use Rattle.rc_lang.specs.Program.{IsProgram};
+ghost use Rattle.rc_lang.specs.Kept.{IsProgram};
 ghost use Rattle.rc_read.specs.Answer.{program_in as read_in};
 ghost use Rattle.rc_read.specs.Pieces.{IsSoundBy, without_parts};
 ghost use Rattle.rc_read.specs.Steps.{ReadsLine, ReadsPiece};

@@ -4,7 +4,8 @@ use Rattle.std.specs.Prelude.{All}
 use Rattle.std.specs.List.{IsDistinct}
 use Rattle.std.proofs.lemmas.List.Sums.{sum_by-append}
 use Rattle.rc_lang.specs.declared.program.Share.{Share}
-use Rattle.rc_lang.specs.Program.{Program, Items, IsItems, IsList, besides}
+use Rattle.rc_lang.specs.Program.{Program, Items, besides}
+use Rattle.rc_lang.specs.Kept.{IsItems, IsList}
 use Rattle.rc_split.specs.Bags.{Part, ShareOf, TokenOf, Credit, bag_of, bag_on}
 use Rattle.rc_split.specs.Holdings.{AreDeclared, AreDeclaredOn}
 use Rattle.rc_split.proofs.Named.{no_share, share_named, token_named}

@@ -9,7 +9,8 @@ use Rattle.rc_lang.specs.declared.program.Token.{Token}
 use Rattle.rc_lang.specs.declared.program.TokenKind.{TokenKind}
 use Rattle.rc_lang.specs.declared.program.TokenKind.TheVariants.{Read, Write, Fsync, Nop, Other}
 use Rattle.rc_lang.specs.Kinds.{kinds_in}
-use Rattle.rc_lang.specs.Program.{Program, IsTokenKind, token_place}
+use Rattle.rc_lang.specs.Program.{Program, token_place}
+use Rattle.rc_lang.specs.Kept.{IsTokenKind}
 use Rattle.rc_lang.specs.Views.{IsView}
 use Rattle.rc_split.specs.Bags.{Part, ShareOf, TokenOf, Credit, shares_bag, token_bag, credits_bag}
 use Rattle.rc_split.proofs.Named.{few_shares}

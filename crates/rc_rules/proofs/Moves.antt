@@ -9,7 +9,8 @@ use Rattle.rc_lang.specs.declared.lines.Test.TheVariants as tests
 use Rattle.rc_lang.specs.declared.lines.Test.TheVariants.{Compare, ReadyZero, SpaceAtLeast, Any}
 use Rattle.rc_lang.specs.declared.program.TokenKind.TheVariants.{Read, Write}
 use Rattle.rc_lang.specs.Parts.{view_items}
-use Rattle.rc_lang.specs.Program.{Program, Items, DeclaresToken}
+use Rattle.rc_lang.specs.Program.{Program, Items}
+use Rattle.rc_lang.specs.Resolved.{DeclaresToken}
 use Rattle.rc_split.specs.Bags.{Part, TokenOf, credits_bag, token_bag, bag_of, minus, plus}
 use Rattle.rc_split.specs.Holdings.{Holding, bag}
 use Rattle.rc_rules.specs.declared.mode.Mode.{Mode}

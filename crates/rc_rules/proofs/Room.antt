@@ -3,7 +3,8 @@ use Rattle.std.proofs.Common.{◌≡◌, ℕ, zero, suc, ◌+◌, ◌<◌, ◌�
 use Rattle.std.specs.List.{list_all, list_any}
 use Rattle.std.proofs.lemmas.Bool.{and_from, and_parts, or_parts, eqb-false, leb-true, le-leb}
 use Rattle.rc_lang.specs.declared.program.Share.{Share}
-use Rattle.rc_lang.specs.Program.{Program, Items, IsItems, shares_at}
+use Rattle.rc_lang.specs.Program.{Program, Items, shares_at}
+use Rattle.rc_lang.specs.Kept.{IsItems}
 use Rattle.rc_lang.specs.Views.{IsView}
 use Rattle.rc_split.specs.Bags.{Part, ShareOf, TokenOf, Credit, bag_of, plus, IsWithin}
 use Rattle.rc_split.specs.Holdings.{Holding, bag, AreDeclared}

@@ -6,7 +6,9 @@ use Rattle.rc_lang.specs.declared.lines.Stmt.{Stmt}
 use Rattle.rc_lang.specs.declared.lines.Stmt.TheVariants as stmts
 use Rattle.rc_lang.specs.declared.lines.Test.TheVariants.{Take as Taken}
 use Rattle.rc_lang.specs.Parts.{view_items}
-use Rattle.rc_lang.specs.Program.{Program, Items, DeclaresToken, IsItems}
+use Rattle.rc_lang.specs.Program.{Program, Items}
+use Rattle.rc_lang.specs.Kept.{IsItems}
+use Rattle.rc_lang.specs.Resolved.{DeclaresToken}
 use Rattle.rc_split.specs.Bags.{Part}
 use Rattle.rc_split.specs.Holdings.{Holding, bag}
 use Rattle.rc_rules.specs.declared.cause.Cause.{Cause}

@@ -8,7 +8,9 @@ use Rattle.rc_lang.specs.declared.lines.Test.{Test}
 use Rattle.rc_lang.specs.declared.program.Token.{Token}
 use Rattle.rc_lang.specs.declared.program.Share.{Share}
 use Rattle.rc_lang.specs.Locks.{no_lock, without_locks}
-use Rattle.rc_lang.specs.Program.{Program, Thread, Items, DeclaresToken, IsTokenKind, shares_at}
+use Rattle.rc_lang.specs.Program.{Program, Thread, Items, shares_at}
+use Rattle.rc_lang.specs.Kept.{IsTokenKind}
+use Rattle.rc_lang.specs.Resolved.{DeclaresToken}
 use Rattle.rc_lang.specs.Views.{view_of}
 use Rattle.rc_rules.specs.declared.cause.Cause.{Cause}
 use Rattle.rc_rules.specs.declared.mode.Mode.{Mode}

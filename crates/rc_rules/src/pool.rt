@@ -3,7 +3,7 @@
 ghost use Rattle.std.specs.Prelude.{◌≡◌, ◌+◌, ◌≤◌, ◌^◌, nat_eq, nat_le};
 ghost use Rattle.std.specs.List.{list_all, list_any};
 ghost use Rattle.rc_lang.specs.Parts.{view_items};
-ghost use Rattle.rc_lang.specs.Program.{IsItems};
+ghost use Rattle.rc_lang.specs.Kept.{IsItems};
 ghost use Rattle.rc_lang.specs.Views.{IsView};
 ghost use Rattle.rc_rules.specs.Rules as rules;
 ghost use Rattle.rc_rules.specs.States as states;

@@ -2,7 +2,7 @@
 
 ghost use Rattle.std.specs.Prelude.{◌≡◌, ◌↔◌, ◌∷◌, [], map, nat_le, IsTrue, None, true};
 ghost use Rattle.rc_lang.specs.Parts.{view_items};
-ghost use Rattle.rc_lang.specs.Program.{IsItems, IsList};
+ghost use Rattle.rc_lang.specs.Kept.{IsItems, IsList};
 ghost use Rattle.rc_lang.specs.Views.{seen};
 ghost use Rattle.rc_rules.specs.Labels.{Live, IsSame, IsStrongest};
 ghost use Rattle.rc_rules.specs.OneRule as one;

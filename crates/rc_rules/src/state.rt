@@ -3,7 +3,8 @@
 ghost use Rattle.std.specs.Prelude.{◌≡◌, ◌<◌, ◌∷◌, [], Bool, true, IsOkAnd, IfOk, Some, map, slice_get, length};
 ghost use Rattle.rc_lang.specs.Parts.{view_items};
 ghost use Rattle.rc_lang.specs.Program as programs;
-ghost use Rattle.rc_lang.specs.Program.{DeclaresToken, IsItems};
+ghost use Rattle.rc_lang.specs.Kept.{IsItems};
+ghost use Rattle.rc_lang.specs.Resolved.{DeclaresToken};
 ghost use Rattle.rc_lang.specs.Views.{seen, view_of};
 ghost use Rattle.rc_lang.specs.declared.lines.Op.{Op};
 ghost use Rattle.rc_lang.specs.declared.lines.Stmt.TheVariants as stmts;

@@ -1,7 +1,7 @@
 -- What holds of each world of a run of a program that is safe.
 use Rattle.std.proofs.Common.{◌<◌, List, subst}
 use Rattle.rc_admit.specs.Worlds.{CallsUnderLock, DataIsFresh, DataIsOne, EntrySuits, HasRoom, NoKernelClash, OfSafeWorlds}
-use Rattle.rc_lang.specs.Program.{IsProgram}
+use Rattle.rc_lang.specs.Kept.{IsProgram}
 use Rattle.rc_world.specs.declared.event.Event.{Event}
 use Rattle.rc_world.specs.Laws.{NoDeadlock}
 use Rattle.rc_world.specs.Machine.{World, start_world}

@@ -6,7 +6,8 @@ use Rattle.std.proofs.lemmas.List.{get_or_past}
 use Rattle.std.proofs.lemmas.Option.{same_Some}
 use Rattle.rc_lang.specs.declared.request.Kind.{Kind}
 use Rattle.rc_lang.specs.declared.request.Kind.TheVariants.{Nop, Fsync, Read, Write, Other}
-use Rattle.rc_lang.specs.Program.{Buffer, IsProgram, Program, bytes_at, no_buffer}
+use Rattle.rc_lang.specs.Program.{Buffer, Program, bytes_at, no_buffer}
+use Rattle.rc_lang.specs.Kept.{IsProgram}
 use Rattle.rc_world.specs.declared.fault.FaultKind.TheVariants.{KernelClash}
 use Rattle.rc_world.specs.Faults.{has_buffer, reads_into}
 use Rattle.rc_world.specs.Kept.{IsKeptPending}

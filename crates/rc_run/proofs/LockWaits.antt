@@ -5,7 +5,8 @@ use Rattle.rc_lang.specs.declared.lines.Line.{Line}
 use Rattle.rc_lang.specs.declared.lines.Locks.{Locks}
 use Rattle.rc_lang.specs.declared.lines.Stmt.{Stmt}
 use Rattle.rc_lang.specs.declared.lines.Stmt.TheVariants.{Lock, Else, EndIf, Case, Other, Nothing, EndArm, EndPeek}
-use Rattle.rc_lang.specs.Program.{IsProgram, Program}
+use Rattle.rc_lang.specs.Program.{Program}
+use Rattle.rc_lang.specs.Kept.{IsProgram}
 use Rattle.rc_world.specs.declared.controls.Answer.{Answer}
 use Rattle.rc_world.specs.declared.controls.Holders.{Holders}
 use Rattle.rc_world.specs.declared.controls.Next.TheVariants.{Ready, TakenLock}

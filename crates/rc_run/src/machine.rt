@@ -2,7 +2,7 @@
 
 ghost use Rattle.std.specs.Prelude.{◌≡◌, ◌+◌, ◌<◌, ◌^◌, IfOk, IsSome, OnErr, OnOk, Some, map, replicate};
 ghost use Rattle.std.specs.Arc.{arc_value};
-ghost use Rattle.rc_lang.specs.Program.{IsProgram};
+ghost use Rattle.rc_lang.specs.Kept.{IsProgram};
 ghost use Rattle.rc_world.specs.Items.{next_of};
 ghost use Rattle.rc_world.specs.Kept.{IsKept};
 ghost use Rattle.rc_world.specs.Machine as machine;

@@ -19,7 +19,8 @@ use Rattle.rc_world.specs.declared.controls.Next.{Next}
 use Rattle.rc_world.specs.declared.controls.Next.TheVariants.{Ready, TakenLock, Ended}
 use Rattle.rc_world.specs.Faults.{fault_of}
 use Rattle.rc_world.specs.Machine.{Pending, World, thread_step}
-use Rattle.rc_lang.specs.Program.{Thread as ThreadPart, IsProgram, Program, Rows, line_at, rows_of}
+use Rattle.rc_lang.specs.Program.{Thread as ThreadPart, Program, Rows, line_at, rows_of}
+use Rattle.rc_lang.specs.Kept.{IsProgram}
 use Rattle.rc_world.specs.Trace.{all_ended_from, has_ended}
 use Rattle.rc_runs.specs.Closing.{AllLike, AreAlike, AreLikeStandings, Follows, GoesOnly, HasWorld, IsCalm, IsGrown, IsLed, IsLedAt, IsLike, IsQuiet, IsQuietAt, IsThreadLed, Leads, Pairwise, StillOnward, is_asked, line_follows, still, with_threads, IfBoth}
 use Rattle.rc_runs.specs.Stuck.{GoesBy, IsOnward, IsStill, counts, is_any, is_any_at, line_moves, moves}

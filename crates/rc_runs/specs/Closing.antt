@@ -21,7 +21,7 @@ use Rattle.rc_world.specs.Machine.{World}
 use Rattle.rc_world.specs.Readers.{variable_in}
 use Rattle.rc_world.specs.Trace.{has_ended}
 use Rattle.rc_runs.specs.Stuck.{GoesBy, IsOnward, IsStill, counts, line_moves, moves}
-use Rattle.rc_lang.specs.Program.{IsProgram}
+use Rattle.rc_lang.specs.Kept.{IsProgram}
 
 -- ---- on which variables something depends
 

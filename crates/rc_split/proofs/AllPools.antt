@@ -4,7 +4,8 @@ use Rattle.std.specs.Prelude.{slice_index_or, slice_set, sum_by}
 use Rattle.std.proofs.lemmas.Bool.{cases_lt, le-leb, leb-true, not-false}
 use Rattle.std.proofs.lemmas.List.{get_or_past, set_past}
 use Rattle.std.proofs.lemmas.List.Sums.{get_or-le-sum_by, sum_by-cons, sum_by-set}
-use Rattle.rc_lang.specs.Program.{IsProgram, Items, Program, token_place}
+use Rattle.rc_lang.specs.Program.{Items, Program, token_place}
+use Rattle.rc_lang.specs.Kept.{IsProgram}
 use Rattle.rc_lang.proofs.Views.{own_view}
 use Rattle.rc_split.specs.Bags.{Part, ShareOf, TokenOf, Credit, bag_of}
 use Rattle.rc_split.specs.Pools.{CanAdd, Pool, Pools, all_of, all_pooled, empty_pool, empty_pools, fits, mark_at, no_pool, overfills, pool_of, pooled, put_into, taken_from, with_items, with_pool, without_items}

@@ -7,7 +7,8 @@ use Rattle.std.proofs.lemmas.List.{get_or_past}
 use Rattle.std.proofs.lemmas.Map.Keys.{IsDistinct-head, IsDistinct-tail}
 use Rattle.rc_lang.specs.declared.program.Share.{Share}
 use Rattle.rc_lang.specs.Views.{IsView}
-use Rattle.rc_lang.specs.Program.{Buffer, Program, Items, IsItems, IsProgram, no_buffer, shares_at}
+use Rattle.rc_lang.specs.Program.{Buffer, Program, Items, no_buffer, shares_at}
+use Rattle.rc_lang.specs.Kept.{IsItems, IsProgram}
 use Rattle.rc_split.specs.Bags.{Part, ShareOf, TokenOf, Credit, bag_of}
 use Rattle.rc_split.specs.Pools.{Pool, all_of, each_part, fits, includes, overfills, pooled}
 use Rattle.rc_split.proofs.PoolBags.{one_share, one_token, shares_in, tokens_in}

@@ -1,7 +1,8 @@
 -- What a `Holding` stands for: the bag that is in its rows.
 use Rattle.std.specs.Prelude.{ℕ, ◌≡◌, ◌+◌, ◌≤◌, ◌⊎◌, ◌/◌, ◌%◌, ◌^◌, ◌<◌, Bool, true, false, cond, List, length, Option, Some, None, nat_eq, nat_le, slice_index, All}
 use Rattle.std.specs.Int.{bit_at}
-use Rattle.rc_lang.specs.Program.{Program, DeclaresToken, token_place}
+use Rattle.rc_lang.specs.Program.{Program, token_place}
+use Rattle.rc_lang.specs.Resolved.{DeclaresToken}
 use Rattle.rc_lang.specs.Views.{IsView}
 use Rattle.rc_lang.specs.declared.program.Share.{Share}
 use Rattle.rc_split.specs.declared.holding.Rows.{Rows}

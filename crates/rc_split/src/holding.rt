@@ -2,7 +2,7 @@
 
 ghost use Rattle.std.specs.Prelude.{◌≡◌, ◌^◌, ◌<◌, ℕ, IsOkAnd, IsTrue, ◌↔◌, true, ◌≤◌, All, nat_eq};
 ghost use Rattle.rc_lang.specs.Parts.{view_items};
-ghost use Rattle.rc_lang.specs.Program.{DeclaresToken};
+ghost use Rattle.rc_lang.specs.Resolved.{DeclaresToken};
 ghost use Rattle.rc_lang.specs.Views.{IsView, seen};
 ghost use Rattle.rc_split.specs.Bags as bags;
 ghost use Rattle.rc_split.specs.Bags.{bag_of, parts};

@@ -1,7 +1,7 @@
 //! The names of a program's parts, as they are printed.
 
 ghost use Rattle.std.specs.Prelude.{◌≡◌};
-ghost use Rattle.rc_lang.specs.Program.{IsProgram};
+ghost use Rattle.rc_lang.specs.Kept.{IsProgram};
 ghost use Rattle.rc_text.specs.Names.{buffer_name, pool_name, side_text, thread_name};
 
 use rc_lang::lines::Locks;

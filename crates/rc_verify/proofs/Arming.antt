@@ -7,7 +7,8 @@ use Rattle.rc_lang.specs.declared.lines.Locks.{Locks}
 use Rattle.rc_lang.specs.declared.lines.Stmt.{Stmt}
 use Rattle.rc_lang.specs.declared.lines.Stmt.TheVariants.{Peek, Case, Other, Nothing}
 use Rattle.rc_lang.specs.Nesting.{blocks_at, locks_in}
-use Rattle.rc_lang.specs.Program.{DeclaresToken, Program, Thread, stmt_at}
+use Rattle.rc_lang.specs.Program.{Program, Thread, stmt_at}
+use Rattle.rc_lang.specs.Resolved.{DeclaresToken}
 use Rattle.rc_lang.proofs.Along.{locks_behind}
 use Rattle.rc_lang.proofs.Closing.{OpensArm, opens_case, opens_nothing, opens_other}
 use Rattle.rc_lang.proofs.Lookups.{blocks_next, nested_here}

@@ -6,7 +6,8 @@ use Rattle.rc_lang.specs.declared.program.Thread.{Thread as ThreadPart}
 use Rattle.rc_lang.specs.Parts.{view_thread}
 use Rattle.rc_lang.specs.Locks.{no_lock}
 use Rattle.rc_lang.specs.Nesting.{blocks_at, locks_in}
-use Rattle.rc_lang.specs.Program.{IsProgram, IsThread, Program, Thread}
+use Rattle.rc_lang.specs.Program.{Program, Thread}
+use Rattle.rc_lang.specs.Kept.{IsProgram, IsThread}
 use Rattle.rc_lang.specs.declared.view.View.{View}
 use Rattle.rc_lang.specs.Views.{seen, view_of}
 use Rattle.rc_lang.proofs.Views.{is_thread, is_view, sees}

@@ -7,7 +7,8 @@ use Rattle.rc_lang.specs.declared.lines.Op.{Op}
 use Rattle.rc_lang.specs.declared.lines.Test.{Test}
 use Rattle.rc_lang.specs.declared.lines.Test.TheVariants.{Compare, ReadyZero, SpaceAtLeast, Take, Any}
 use Rattle.rc_lang.specs.Locks.{no_lock, with_locks, without_locks}
-use Rattle.rc_lang.specs.Program.{Program, Items, Thread, IsItems, IsList, besides, items_at}
+use Rattle.rc_lang.specs.Program.{Program, Items, Thread, besides, items_at}
+use Rattle.rc_lang.specs.Kept.{IsItems, IsList}
 use Rattle.rc_lang.specs.Views.{IsView}
 use Rattle.rc_split.specs.Bags.{Part, TokenOf, bag_of, bag_on, plus}
 use Rattle.rc_rules.specs.declared.mode.Mode.{Mode}

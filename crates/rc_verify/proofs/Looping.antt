@@ -9,7 +9,8 @@ use Rattle.rc_lang.specs.declared.lines.Locks.{Locks}
 use Rattle.rc_lang.specs.declared.lines.Stmt.{Stmt}
 use Rattle.rc_lang.specs.declared.lines.Stmt.TheVariants.{Loop, EndLoop, Break}
 use Rattle.rc_lang.specs.Nesting.{blocks_at, locks_in}
-use Rattle.rc_lang.specs.Program.{Items, IsList, Program, Thread, items_at, no_items, stmt_at, stmt_of}
+use Rattle.rc_lang.specs.Program.{Items, Program, Thread, items_at, no_items, stmt_at, stmt_of}
+use Rattle.rc_lang.specs.Kept.{IsList}
 use Rattle.rc_lang.proofs.Closing.{closes_loop, in_loop, leaves_loop}
 use Rattle.rc_lang.proofs.Lookups.{blocks_next}
 use Rattle.rc_lang.proofs.Placed.{EachPlaced}

@@ -13,7 +13,8 @@ use Rattle.std.proofs.lemmas.Nat.{mul-le}
 use Rattle.rc_lang.specs.declared.program.Stock.{Stock as StockPart}
 use Rattle.rc_lang.specs.declared.program.Thread.{Thread as ThreadPart}
 use Rattle.rc_lang.specs.Parts.{view_items, view_stock, view_thread}
-use Rattle.rc_lang.specs.Program.{Program, Items, Stock, Thread, IsItems, IsProgram, IsStock, further_copies, line_end, shares_at}
+use Rattle.rc_lang.specs.Program.{Program, Items, Stock, Thread, further_copies, line_end, shares_at}
+use Rattle.rc_lang.specs.Kept.{IsItems, IsProgram, IsStock}
 use Rattle.rc_lang.proofs.Copies.{alone, copy_at}
 use Rattle.rc_split.specs.Bags.{Part, ShareOf, TokenOf, Credit, bag_of, begun, plus, IsWithin, IsSameBag}
 use Rattle.rc_split.specs.Holdings.{Gains, Holding, Holds, bag}

@@ -7,7 +7,8 @@ use Rattle.std.proofs.lemmas.Option.{slice_get_cases}
 use Rattle.rc_lang.specs.declared.program.Thread.{Thread as ThreadPart}
 use Rattle.rc_lang.specs.declared.program.Stock.{Stock as StockPart}
 use Rattle.rc_lang.specs.Parts.{view_stock, view_thread}
-use Rattle.rc_lang.specs.Program.{IsProgram, Program, Stock, Thread, further_copies, line_end}
+use Rattle.rc_lang.specs.Program.{Program, Stock, Thread, further_copies, line_end}
+use Rattle.rc_lang.specs.Kept.{IsProgram}
 use Rattle.rc_lang.proofs.Copies.{NextAt, next_at, one_end}
 use Rattle.rc_split.specs.Bags.{Part, ShareOf, TokenOf, Credit, IsWithin, begun}
 use Rattle.rc_rules.specs.Labellings.{Passes, given_to, given_to_pools, header_asks, header_premises, headers_bag, is_empty, may_hold, pool_asks, shares_of, tokens_of, credits_of, IsHeaderRefused, IsBodyRefused, IsPoolRefused, IsThreadRefused}

@@ -3,7 +3,8 @@ use Rattle.std.specs.Prelude.{◌≡◌, ◌<◌, List, Bool, true, false, [], �
 use Rattle.rc_lang.specs.declared.lines.Stmt.TheVariants.{If}
 use Rattle.rc_lang.specs.declared.lines.Test.{Test}
 use Rattle.rc_lang.specs.declared.lines.Test.TheVariants.{Take}
-use Rattle.rc_lang.specs.Program.{Items, IsItems, Program, items_at}
+use Rattle.rc_lang.specs.Program.{Items, Program, items_at}
+use Rattle.rc_lang.specs.Kept.{IsItems}
 use Rattle.rc_rules.specs.declared.cause.Cause.{Cause}
 use Rattle.rc_rules.specs.Rules.{goes, test_effect}
 use Rattle.rc_rules.specs.Sides.{gate, test_goes}

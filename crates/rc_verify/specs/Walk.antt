@@ -6,7 +6,8 @@ use Rattle.rc_lang.specs.declared.lines.Block.TheVariants.{InIf, InElse, InPeek,
 use Rattle.rc_lang.specs.declared.lines.Line.{Line}
 use Rattle.rc_lang.specs.declared.lines.Locks.{Locks}
 use Rattle.rc_lang.specs.Nesting.{blocks_at, locks_in}
-use Rattle.rc_lang.specs.Program.{Program, Thread, IsThread}
+use Rattle.rc_lang.specs.Program.{Program, Thread}
+use Rattle.rc_lang.specs.Kept.{IsThread}
 use Rattle.rc_lang.specs.Views.{IsView}
 use Rattle.rc_rules.specs.declared.cause.Cause.{Cause}
 use Rattle.rc_rules.specs.declared.mode.Slot.TheVariants.{Closed}

@@ -1,7 +1,7 @@
 //! The arms of the peek that is open.
 
 ghost use Rattle.std.specs.Prelude.{◌≡◌, ◌∷◌, [], Bool, true, false, IsSome, IfSome, None, OnErr, OnOk, Some};
-ghost use Rattle.rc_lang.specs.Program.{DeclaresToken};
+ghost use Rattle.rc_lang.specs.Resolved.{DeclaresToken};
 ghost use Rattle.rc_rules.specs.Rules as rules;
 ghost use Rattle.rc_rules.specs.Sides as sides;
 ghost use Rattle.rc_rules.specs.States as states;

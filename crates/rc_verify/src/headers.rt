@@ -3,7 +3,8 @@
 ghost use Rattle.std.specs.Prelude.{◌≡◌, ◌⊎◌, ◌+◌, ◌-◌, ◌*◌, ◌<◌, ◌≤◌, [], length, nat_le, true, OnOk, Some};
 ghost use Rattle.std.specs.List.{list_all};
 ghost use Rattle.rc_lang.specs.Parts.{view_items, view_thread};
-ghost use Rattle.rc_lang.specs.Program.{IsItems, line_end};
+ghost use Rattle.rc_lang.specs.Program.{line_end};
+ghost use Rattle.rc_lang.specs.Kept.{IsItems};
 ghost use Rattle.rc_rules.specs.Labellings.{given_to, given_to_pools, header_asks, may_hold, pool_asks};
 ghost use Rattle.rc_rules.specs.Premises.{Tests};
 ghost use Rattle.rc_rules.specs.Rules.{limit};

@@ -2,7 +2,7 @@
 
 ghost use Rattle.std.specs.Prelude.{◌≡◌, ◌<◌, length, IsSome, OnErr, OnOk};
 ghost use Rattle.rc_lang.specs.Parts.{view_items};
-ghost use Rattle.rc_lang.specs.Program.{IsList};
+ghost use Rattle.rc_lang.specs.Kept.{IsList};
 ghost use Rattle.rc_rules.specs.States as states;
 ghost use Rattle.rc_verify.specs.Stack.{OnLast, last_of};
 ghost use Rattle.rc_verify.specs.Loops as spec;

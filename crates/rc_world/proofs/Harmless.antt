@@ -4,7 +4,8 @@ use Rattle.std.proofs.lemmas.Bool.{or_parts, and_left, and_right, cases_lt}
 use Rattle.std.proofs.lemmas.Option.{same_Some, slice_get_within}
 use Rattle.rc_lang.specs.declared.lines.Line.{Line}
 use Rattle.rc_lang.specs.declared.lines.Stmt.{Stmt}
-use Rattle.rc_lang.specs.Program.{IsProgram, Thread, lines_in, lines_of, rows_of}
+use Rattle.rc_lang.specs.Program.{Thread, lines_in, lines_of, rows_of}
+use Rattle.rc_lang.specs.Kept.{IsProgram}
 use Rattle.rc_lang.specs.Rows.{read_line}
 use Rattle.rc_lang.proofs.Reading.{line_alone}
 use Rattle.rc_world.specs.declared.event.Item.{Item}

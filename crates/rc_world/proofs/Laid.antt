@@ -8,7 +8,9 @@ use Rattle.rc_lang.specs.declared.lines.Stmt.TheVariants.{Put, If, Else, EndIf, 
 use Rattle.rc_lang.specs.declared.lines.Test.{Test}
 use Rattle.rc_lang.specs.declared.lines.Test.TheVariants.{Take}
 use Rattle.rc_lang.specs.Nesting.{Way, blocks_at, way_out, way_past, way_through}
-use Rattle.rc_lang.specs.Program.{HasArms, HasEnd, IsItems, IsLinked, IsProgram, IsResolved, IsThread, Program, Thread, ends_in, items_at, lines_in, lines_of, lists_in, lists_of, no_items, stmt_at}
+use Rattle.rc_lang.specs.Program.{Program, Thread, ends_in, items_at, lines_in, lines_of, lists_in, lists_of, no_items, stmt_at}
+use Rattle.rc_lang.specs.Kept.{IsItems, IsProgram, IsThread}
+use Rattle.rc_lang.specs.Resolved.{HasArms, HasEnd, IsLinked, IsResolved}
 use Rattle.rc_lang.proofs.Lookups.{EachNested, nested_here, stands_within}
 use Rattle.rc_lang.proofs.Placed.{placed, placed_innermost}
 

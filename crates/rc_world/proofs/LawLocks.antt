@@ -17,7 +17,9 @@ use Rattle.rc_lang.specs.declared.lines.Test.{Test}
 use Rattle.rc_lang.specs.declared.lines.Test.TheVariants.{Compare, ReadyZero, SpaceAtLeast, Take, Any}
 use Rattle.rc_lang.specs.Locks.{with_locks, without_locks}
 use Rattle.rc_lang.specs.Nesting.{blocks_at, locks_in}
-use Rattle.rc_lang.specs.Program.{HasArms, IsProgram, Items, Program, end_at, ends_in, items_at, lines_of, lists_of, stmt_at, stmt_of, rows_of}
+use Rattle.rc_lang.specs.Program.{Items, Program, end_at, ends_in, items_at, lines_of, lists_of, stmt_at, stmt_of, rows_of}
+use Rattle.rc_lang.specs.Kept.{IsProgram}
+use Rattle.rc_lang.specs.Resolved.{HasArms}
 use Rattle.rc_lang.proofs.Along.{locks_next, locks_pushed, same_locks}
 use Rattle.rc_lang.proofs.Closing.{closes_arm, closes_lock, leaves_loop, turns}
 use Rattle.rc_lang.proofs.Jumps.{IsLaid, arm_leads, back_leads, break_leads, case_lands, else_leads, false_leads, nothing_lands, other_lands}

@@ -15,7 +15,9 @@ use Rattle.rc_lang.specs.declared.lines.Stmt.{Stmt}
 use Rattle.rc_lang.specs.declared.lines.Stmt.TheVariants.{Do, Put, Lock, EndLock, If, Else, EndIf, Peek, Case, Other, Nothing, EndArm, Loop, EndLoop, Break}
 use Rattle.rc_lang.specs.declared.lines.Test.{Test}
 use Rattle.rc_lang.specs.declared.lines.Test.TheVariants.{Compare, ReadyZero, SpaceAtLeast, Take, Any}
-use Rattle.rc_lang.specs.Program.{HasArms, IsProgram, Items, Program, end_at, ends_in, lines_of, rows_of, stmt_at, stmt_of}
+use Rattle.rc_lang.specs.Program.{Items, Program, end_at, ends_in, lines_of, rows_of, stmt_at, stmt_of}
+use Rattle.rc_lang.specs.Kept.{IsProgram}
+use Rattle.rc_lang.specs.Resolved.{HasArms}
 use Rattle.rc_lang.specs.Rows.{read_op, read_stmt}
 use Rattle.rc_lang.proofs.Jumps.{IsLaid, IsOpen, back_open, break_open, false_open, leads_open, open_behind}
 use Rattle.rc_lang.proofs.Lookups.{line_with}

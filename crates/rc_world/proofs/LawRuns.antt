@@ -2,7 +2,8 @@
 use Rattle.std.proofs.Common.{◌≡◌, ℕ, zero, suc, false, List, [], ◌∷◌, length, map, replicate, Some, refl, sym, ap, ◌∙◌, subst, slice_get, slice_set, inl, inr, ℤ, pos}
 use Rattle.std.proofs.lemmas.List.{length-map, length-set}
 use Rattle.std.proofs.lemmas.Option.{same_Some}
-use Rattle.rc_lang.specs.Program.{IsProgram, Program, Thread, lines_of, stmt_of}
+use Rattle.rc_lang.specs.Program.{Program, Thread, lines_of, stmt_of}
+use Rattle.rc_lang.specs.Kept.{IsProgram}
 use Rattle.rc_lang.proofs.Rests.{IsRest}
 use Rattle.rc_world.specs.declared.event.Event.{Event}
 use Rattle.rc_world.specs.Controls.{Standing, rest_at, acts}

@@ -11,7 +11,9 @@ use Rattle.rc_lang.specs.declared.lines.Stmt.{Stmt}
 use Rattle.rc_lang.specs.declared.lines.Stmt.TheVariants.{Do}
 use Rattle.rc_lang.specs.declared.program.File.{File}
 use Rattle.rc_lang.specs.declared.request.Request.{Request}
-use Rattle.rc_lang.specs.Program.{DeclaresFile, IsMove, IsOperand, IsProgram, IsResolvedOp, Program, lines_of, stmt_at}
+use Rattle.rc_lang.specs.Program.{Program, lines_of, stmt_at}
+use Rattle.rc_lang.specs.Kept.{IsProgram}
+use Rattle.rc_lang.specs.Resolved.{DeclaresFile, IsMove, IsOperand, IsResolvedOp}
 use Rattle.rc_lang.specs.Rows.{line_read_at}
 use Rattle.rc_lang.proofs.Reading.{stmt_alone}
 use Rattle.rc_world.specs.Changes.{CallIsSmall, StmtIsSmall}

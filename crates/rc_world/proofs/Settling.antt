@@ -4,7 +4,8 @@ use Rattle.std.proofs.lemmas.Option.{same_Some}
 use Rattle.std.proofs.Math.Bool.{or-false, or_assoc}
 use Rattle.rc_lang.specs.declared.lines.Stmt.{Stmt}
 use Rattle.rc_lang.specs.declared.lines.Stmt.TheVariants.{Else, EndIf, EndArm}
-use Rattle.rc_lang.specs.Program.{Program, IsProgram, lines_of, end_at, stmt_at}
+use Rattle.rc_lang.specs.Program.{Program, lines_of, end_at, stmt_at}
+use Rattle.rc_lang.specs.Kept.{IsProgram}
 use Rattle.rc_lang.proofs.Lookups.{stands_within}
 use Rattle.rc_world.proofs.Laid.{IsBelow, arm_leads, else_leads, laid}
 use Rattle.rc_world.specs.Changes.{hop_at}

@@ -4,7 +4,8 @@ use Rattle.std.proofs.lemmas.List.{length-map, length-replicate}
 use Rattle.std.proofs.lemmas.Option.{same_Some}
 use Rattle.rc_lang.specs.declared.program.Buffer.{Buffer as BufferPart}
 use Rattle.rc_lang.specs.Parts.{view_buffer}
-use Rattle.rc_lang.specs.Program.{Buffer, IsProgram, Program, bytes_at}
+use Rattle.rc_lang.specs.Program.{Buffer, Program, bytes_at}
+use Rattle.rc_lang.specs.Kept.{IsProgram}
 use Rattle.rc_lang.specs.declared.request.Request.{Request}
 use Rattle.rc_world.specs.declared.event.Completion.{Completion}
 use Rattle.rc_world.specs.declared.world.Slot.TheVariants.{Closed}

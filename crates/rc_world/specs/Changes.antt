@@ -6,7 +6,9 @@ use Rattle.rc_lang.specs.declared.lines.Stmt.{Stmt}
 use Rattle.rc_lang.specs.declared.lines.Stmt.TheVariants.{Do, If}
 use Rattle.rc_lang.specs.declared.lines.Test.{Test}
 use Rattle.rc_lang.specs.declared.lines.Test.TheVariants.{Compare, ReadyZero, SpaceAtLeast, Take, Any}
-use Rattle.rc_lang.specs.Program.{IsOperand, IsProgram, Program, lines_of, lists_of, stmt_at}
+use Rattle.rc_lang.specs.Program.{Program, lines_of, lists_of, stmt_at}
+use Rattle.rc_lang.specs.Kept.{IsProgram}
+use Rattle.rc_lang.specs.Resolved.{IsOperand}
 use Rattle.rc_split.specs.Pools.{Pools, taken_from}
 use Rattle.rc_world.specs.declared.controls.Answer.{Answer}
 use Rattle.rc_world.specs.declared.controls.Holders.{Holders}

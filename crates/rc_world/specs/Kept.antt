@@ -2,7 +2,8 @@
 -- read fills it, which keeps its bytes.
 use Rattle.std.specs.Prelude.{ℕ, ◌≡◌, ◌<◌, ◌≤◌, true, List, length, Option, Some, None, slice_get}
 use Rattle.rc_lang.specs.declared.request.Request.{Request}
-use Rattle.rc_lang.specs.Program.{IsProgram, Program, bytes_at}
+use Rattle.rc_lang.specs.Program.{Program, bytes_at}
+use Rattle.rc_lang.specs.Kept.{IsProgram}
 use Rattle.rc_world.specs.declared.world.Slot.{Slot}
 use Rattle.rc_world.specs.declared.world.Slot.TheVariants.{Closed, Vacant, Prepared}
 use Rattle.rc_world.specs.Faults.{clashes, has_buffer, is_filling}

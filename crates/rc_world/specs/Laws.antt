@@ -3,7 +3,8 @@ use Rattle.std.specs.Prelude.{ℕ, ◌≡◌, ◌<◌, ◌⊎◌, true, false, L
 use Rattle.rc_lang.specs.declared.lines.Line.{Line}
 use Rattle.rc_lang.specs.declared.lines.Locks.{Locks}
 use Rattle.rc_lang.specs.declared.lines.Stmt.TheVariants.{Lock}
-use Rattle.rc_lang.specs.Program.{Program, IsProgram, lines_of}
+use Rattle.rc_lang.specs.Program.{Program, lines_of}
+use Rattle.rc_lang.specs.Kept.{IsProgram}
 use Rattle.rc_lang.specs.Requests.{may_complete}
 use Rattle.rc_world.specs.declared.event.Event.{Event}
 use Rattle.rc_world.specs.declared.event.Item.{Item}

@@ -1,7 +1,7 @@
 //! Where each thread is, its variables, who holds the locks, what was done with the front completion, and the pools.
 
 ghost use Rattle.std.specs.Prelude.{◌≡◌, ◌<◌, ◌≤◌, ◌&&◌, is_none, length, map, option_map, pos, replicate, slice_get, IfOk, IsSome, IsOkAnd};
-ghost use Rattle.rc_lang.specs.Program.{IsProgram};
+ghost use Rattle.rc_lang.specs.Kept.{IsProgram};
 ghost use Rattle.rc_world.specs.Changes.{Acts, StandsAt, act_at, standing_at};
 ghost use Rattle.rc_world.specs.Parts.{at_first_line};
 ghost use Rattle.rc_world.specs.Controls as spec;

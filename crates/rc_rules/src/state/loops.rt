@@ -3,7 +3,7 @@
 ghost use Rattle.std.specs.Prelude.{◌≡◌, ◌∷◌, [], false, Some};
 ghost use Rattle.rc_lang.specs.Parts.{view_items};
 ghost use Rattle.rc_lang.specs.declared.lines.Stmt.TheVariants as stmts;
-ghost use Rattle.rc_lang.specs.Program.{IsList};
+ghost use Rattle.rc_lang.specs.Kept.{IsList};
 ghost use Rattle.rc_rules.specs.Premises.{Tests};
 ghost use Rattle.rc_rules.specs.Rules as rules;
 ghost use Rattle.rc_rules.specs.Sides as sides;

@@ -4,7 +4,7 @@ ghost use Rattle.std.specs.Prelude.{◌∷◌, []};
 ghost use Rattle.rc_lang.specs.Parts.{view_items};
 ghost use Rattle.rc_lang.specs.declared.lines.Stmt.TheVariants as stmts;
 ghost use Rattle.rc_lang.specs.declared.lines.Test.TheVariants as tests;
-ghost use Rattle.rc_lang.specs.Program.{IsItems};
+ghost use Rattle.rc_lang.specs.Kept.{IsItems};
 ghost use Rattle.rc_rules.specs.Rules as rules;
 ghost use Rattle.rc_rules.specs.States as spec;
 

@@ -1,7 +1,8 @@
 //! Which steps of threads move something, and which can be compared.
 
 ghost use Rattle.std.specs.Prelude.{◌≡◌, ◌&&◌, false, slice_index_or};
-ghost use Rattle.rc_lang.specs.Program.{IsProgram, items_at, lists_of};
+ghost use Rattle.rc_lang.specs.Program.{items_at, lists_of};
+ghost use Rattle.rc_lang.specs.Kept.{IsProgram};
 ghost use Rattle.rc_runs.specs.Stuck as spec;
 ghost use Rattle.rc_runs.specs.Closing as closing;
 ghost use Rattle.rc_split.specs.Pools.{includes, pool_of};

@@ -2,7 +2,7 @@
 
 ghost use Rattle.std.specs.Prelude.{◌≡◌, ◌<◌, ◌≤◌, length, ◌+ℤ◌, ◌-ℤ◌, Some, IsSome};
 ghost use Rattle.rc_lang.specs.declared.lines.Stmt.TheVariants.{Do};
-ghost use Rattle.rc_lang.specs.Program.{IsOperand};
+ghost use Rattle.rc_lang.specs.Resolved.{IsOperand};
 ghost use Rattle.rc_world.specs.Changes.{Acts, CallIsSmall, standing_at};
 ghost use Rattle.rc_world.specs.Controls as spec;
 

@@ -1,7 +1,8 @@
 //! What a thread has next at a place, whether it holds a lock, to which arm of a peek it goes, and where it comes to rest.
 
 ghost use Rattle.std.specs.Prelude.{◌≡◌, ◌<◌, ◌≤◌, length, IfSome};
-ghost use Rattle.rc_lang.specs.Program.{IsProgram, end_at, lines_of};
+ghost use Rattle.rc_lang.specs.Program.{end_at, lines_of};
+ghost use Rattle.rc_lang.specs.Kept.{IsProgram};
 ghost use Rattle.rc_world.specs.Changes.{hop_at};
 ghost use Rattle.rc_world.specs.Controls as spec;
 ghost use Rattle.rc_world.specs.Faults.{is_holder};

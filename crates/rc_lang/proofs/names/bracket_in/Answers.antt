@@ -1,4 +1,4 @@
-use Rattle.std.proofs.Common.{◌≡◌, ◌<◌, true, arith, ap, sym, ◌∙◌, get_or}
+use Rattle.std.proofs.Common.{arith, sym, ◌∙◌}
 use Rattle.std.proofs.lemmas.List.Sums.{position_or_len_is}
 use Rattle.rc_lang.specs.Names.{is_bracket}
 use Rattle.rc_lang.proofs.names.bracket_in.Goals as goal

@@ -1,5 +1,5 @@
 use Rattle.std.proofs.Common.{refl, subst}
-use Rattle.rc_lang.specs.Program.{IsProgram}
+use Rattle.rc_lang.specs.Kept.{IsProgram}
 use Rattle.rc_admit.proofs.Safe.{accepted_is_safe, accepted_is_weakly_safe}
 use Rattle.rc_admit.proofs.admitted.Admitted.from_program.Goals as goal
 

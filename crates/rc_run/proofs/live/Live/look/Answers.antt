@@ -1,5 +1,5 @@
 use Rattle.std.proofs.Common.{subst}
-use Rattle.rc_lang.specs.Program.{IsProgram}
+use Rattle.rc_lang.specs.Kept.{IsProgram}
 use Rattle.rc_run.specs.Lives.{Live}
 use Rattle.rc_run.proofs.Calms.{calm}
 use Rattle.rc_run.proofs.live.Live.look.Goals as goal

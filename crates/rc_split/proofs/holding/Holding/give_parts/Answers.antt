@@ -1,5 +1,5 @@
 use Rattle.std.proofs.Common.{subst, sym, All}
-use Rattle.rc_lang.specs.Program.{DeclaresToken}
+use Rattle.rc_lang.specs.Resolved.{DeclaresToken}
 use Rattle.rc_split.proofs.holding.Holding.give_parts.Goals as goal
 
 pub give_tokens-requires-clause-names : goal.give_tokens-requires-clause-names

@@ -1,5 +1,5 @@
 use Rattle.std.proofs.Common.{subst, sym, get_or}
-use Rattle.rc_lang.specs.Program.{DeclaresToken}
+use Rattle.rc_lang.specs.Resolved.{DeclaresToken}
 use Rattle.rc_split.specs.Holdings.{bag}
 use Rattle.rc_split.proofs.Held.{not_yet}
 use Rattle.rc_split.proofs.holding.Holding.give_tokens.Goals as goal

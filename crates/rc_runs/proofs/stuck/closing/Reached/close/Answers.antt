@@ -3,7 +3,7 @@ use Rattle.std.proofs.lemmas.Option.{same_Some, slice_get_read}
 use Rattle.rc_runs.specs.Closing.{IsQuiet, IsThreadLed}
 use Rattle.rc_runs.proofs.Closed.{grown_on, led_more, none_is, quiet_all}
 use Rattle.rc_runs.proofs.stuck.closing.Reached.close.Goals as goal
-use Rattle.rc_lang.specs.Program.{IsProgram}
+use Rattle.rc_lang.specs.Kept.{IsProgram}
 
 pub loop-thread-preserved : goal.loop-thread-preserved
 loop-thread-preserved c =
