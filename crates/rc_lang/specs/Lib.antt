@@ -9,5 +9,5 @@ pub mod Parts
 pub mod Program
 pub mod Requests
 pub mod Resolved
-pub mod Views
 pub mod Rows
+pub mod Views

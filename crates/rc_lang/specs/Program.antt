@@ -36,10 +36,10 @@ pub record Rows : Type 0 where
   pub members : List Named
 
 -- A thread: its name, its number where its line declares copies, the line of its header, what it holds as it begins,
--- its lists of items (what it holds at the
--- tops of its loops, and what it puts into pools and takes from them), its lines, for the lines that a jump starts from
--- the place that it leads to, the names of its variables by their numbers, its flag: the one variable that a loop of
--- it names behind `when`, wherever in the thread that loop stands; and what the names in its lines stand for.
+-- its lists of items (what it holds at the tops of its loops, and what it puts into pools and takes from them), its
+-- lines, for the lines that a jump starts from the place that it leads to, the names of its variables by their numbers,
+-- its flag (the one variable that a loop of it names behind `when`, wherever in the thread that loop stands), and what
+-- the names in its lines stand for.
 pub record Thread : Type 0 where
   pub name : List ℕ
   pub copy : Option ℕ

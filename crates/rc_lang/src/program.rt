@@ -235,12 +235,10 @@ impl Model for Program {
 }
 
 impl Program {
-    ghost use Rattle.std.specs.Prelude.{◌≡◌, map};
-    ghost use Rattle.rc_lang.specs.Parts.{view_buffer, view_items, view_names, view_program, view_stock, view_thread};
-    ghost use Rattle.std.specs.Prelude.{◌<◌, ◌≤◌, length};
-    ghost use Rattle.rc_lang.specs.Program.{bytes_at, end_at, line_at, line_end, lists_of, shares_at, token_place};
+    ghost use Rattle.std.specs.Prelude.{◌≡◌, ◌<◌, ◌≤◌, length, map};
     ghost use Rattle.rc_lang.specs.Kept.{IsProgram};
-    ghost use Rattle.rc_lang.specs.Rows.{line_read_at};
+    ghost use Rattle.rc_lang.specs.Parts.{view_buffer, view_names, view_program, view_stock, view_thread};
+    ghost use Rattle.rc_lang.specs.Program.{line_end};
 
     /// A program of these parts, which keep the limits, the nesting and the resolved names of programs.
     pub fn new(head: Head, declarations: Declarations, threads: Vec<Thread>) -> Program

@@ -1,6 +1,5 @@
 -- What items of a program say of a part: nothing where they don't name it, and else what they say once.
-use Rattle.std.proofs.Common.{◌≡◌, ℕ, zero, suc, ◌+◌, ◌<◌, ◌≤◌, Bool, true, false, not, List, [], ◌∷◌, length, map, get_or, refl, ap, ◌∙◌, sym, subst, ◌⊎◌, inl, inr, ◌&&◌, nat_eq, nat_le, ltb, ◌^◌, arith}
-use Rattle.std.specs.Prelude.{slice_index}
+use Rattle.std.proofs.Common.{◌≡◌, ℕ, zero, suc, ◌+◌, ◌<◌, ◌≤◌, Bool, true, false, not, List, [], ◌∷◌, length, map, get_or, refl, ap, ◌∙◌, sym, subst, ◌⊎◌, inl, inr, ◌&&◌, nat_eq, nat_le, ltb, arith}
 use Rattle.std.specs.List.{AllByRecursion, IsDistinct, list_all, list_any}
 use Rattle.std.proofs.lemmas.Bool.{eqb-false, leb-true, ltb-true, ltb-false, and_from, and_parts, not-false, or_parts}
 use Rattle.std.proofs.lemmas.List.{get_or_past}
@@ -8,7 +7,7 @@ use Rattle.std.proofs.lemmas.Map.Keys.{IsDistinct-head, IsDistinct-tail}
 use Rattle.rc_lang.specs.declared.program.Share.{Share}
 use Rattle.rc_lang.specs.Views.{IsView}
 use Rattle.rc_lang.specs.Program.{Buffer, Program, Items, no_buffer, shares_at}
-use Rattle.rc_lang.specs.Kept.{IsItems, IsProgram}
+use Rattle.rc_lang.specs.Kept.{IsItems}
 use Rattle.rc_split.specs.Bags.{Part, ShareOf, TokenOf, Credit, bag_of}
 use Rattle.rc_split.specs.Pools.{Pool, all_of, each_part, fits, includes, overfills, pooled}
 use Rattle.rc_split.proofs.PoolBags.{one_share, one_token, shares_in, tokens_in}

@@ -1,11 +1,11 @@
 -- The pools at the start: what the first of their lines say, and what is still to come.
-use Rattle.std.proofs.Common.{◌≡◌, ℕ, ◌+◌, ◌*◌, ◌<◌, ◌≤◌, List, drop, fold, get_or, inr, length, map, refl, sym, ap, subst, ◌∙◌, arith}
+use Rattle.std.proofs.Common.{◌≡◌, ℕ, ◌+◌, ◌*◌, ◌<◌, ◌≤◌, List, drop, fold, get_or, inr, length, map, sym, ap, subst, ◌∙◌, arith}
 use Rattle.std.proofs.lemmas.List.{at_drop_more, get_or-map, length-map}
 use Rattle.rc_lang.specs.declared.program.Stock.{Stock as StockPart}
 use Rattle.rc_lang.specs.Parts.{view_items, view_stock}
-use Rattle.rc_lang.specs.Program.{Items, Program, Stock}
+use Rattle.rc_lang.specs.Program.{Program, Stock}
 use Rattle.rc_lang.specs.Kept.{IsItems, IsProgram, IsStock}
-use Rattle.rc_split.specs.Bags.{Part, bag_of}
+use Rattle.rc_split.specs.Bags.{Part}
 use Rattle.rc_split.specs.Pools.{CanAdd, Pools, all_pooled, pool_of, put_into}
 use Rattle.rc_split.proofs.AllPools.{all_with, pooled_most}
 use Rattle.rc_split.proofs.Named.{few_named}

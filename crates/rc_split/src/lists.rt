@@ -1,6 +1,6 @@
 //! How much of a part lists of items name together. A list may name one buffer or token twice.
 
-ghost use Rattle.std.specs.Prelude.{◌≡◌, cond, nat_le, slice_index};
+ghost use Rattle.std.specs.Prelude.{◌≡◌, nat_le, slice_index};
 ghost use Rattle.std.specs.List.{list_all};
 ghost use Rattle.rc_lang.specs.declared.program.Share as given;
 ghost use Rattle.rc_lang.specs.Program.{token_place};

@@ -1,4 +1,4 @@
-use Rattle.std.proofs.Common.{◌≡◌, ◌+◌, ◌*◌, ◌≤◌, ◌∙◌, ap, drop, map, subst, sym}
+use Rattle.std.proofs.Common.{◌+◌, ◌*◌, ◌≤◌, ◌∙◌, ap, drop, map, subst, sym}
 use Rattle.rc_lang.specs.Parts.{view_stock}
 use Rattle.rc_split.specs.Pools.{Pools, all_pooled}
 use Rattle.rc_split.proofs.Starting.{can_start, next_line, still_little, with_lines}

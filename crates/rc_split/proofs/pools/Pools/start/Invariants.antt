@@ -1,4 +1,4 @@
-use Rattle.std.proofs.Common.{◌≡◌, ℕ, ◌*◌, ◌≤◌, drop, map}
+use Rattle.std.proofs.Common.{◌≡◌, ◌*◌, ◌≤◌, drop, map}
 use Rattle.rc_lang.specs.Parts.{view_stock}
 use Rattle.rc_split.specs.Bags.{Part}
 use Rattle.rc_split.specs.Pools.{all_pooled, start_pools}
