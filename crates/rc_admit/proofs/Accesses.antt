@@ -8,7 +8,7 @@ use Rattle.rc_lang.specs.declared.lines.Op.{Op}
 use Rattle.rc_lang.specs.declared.lines.Op.TheVariants.{Load, Store, Fill}
 use Rattle.rc_lang.specs.declared.lines.Stmt.{Stmt}
 use Rattle.rc_lang.specs.declared.lines.Stmt.TheVariants.{Do}
-use Rattle.rc_lang.specs.Program.{Program, Thread, lines_in, lines_of, shares_at, stmt_at, stmt_of}
+use Rattle.rc_lang.specs.Program.{Program, Thread, lines_in, lines_of, shares_at, stmt_at}
 use Rattle.rc_lang.specs.Kept.{IsProgram}
 use Rattle.rc_lang.specs.Resolved.{IsResolved}
 use Rattle.rc_rules.specs.declared.mode.Mode.{Mode}

@@ -12,7 +12,7 @@ use Rattle.rc_lang.specs.declared.lines.Stmt.TheVariants.{Do, Put, EndLock, If, 
 use Rattle.rc_lang.specs.declared.lines.Test.TheVariants.{ReadyZero, SpaceAtLeast, Take}
 use Rattle.rc_lang.specs.declared.request.Request.{Request}
 use Rattle.rc_lang.specs.declared.program.Share.{Share}
-use Rattle.rc_lang.specs.Program.{Items, bytes_at, items_at, lists_of, shares_at}
+use Rattle.rc_lang.specs.Program.{Items, bytes_at, shares_at}
 use Rattle.rc_split.specs.Bags.{Part, ShareOf, TokenOf, Credit, bag_of, tokens_alone}
 use Rattle.rc_split.specs.Pools.{all_pooled, fits, overfills}
 use Rattle.rc_split.proofs.Named.{all_at, no_share}

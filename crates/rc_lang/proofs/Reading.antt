@@ -1,4 +1,5 @@
--- Lines and lists that are read at the values of variables: what that keeps, and that it changes nothing where no name has a row.
+-- Lines and lists that are read at the values of variables: what that keeps, and that it changes nothing where no name has
+-- a row.
 use Rattle.std.proofs.Common.{ℕ, ℤ, ◌≡◌, ◌<◌, List, length, get_or, Option, Some, None, option_map, slice_get, refl, sym, ap, ◌∙◌, subst, map, arith}
 use Rattle.std.proofs.lemmas.List.{map-id}
 use Rattle.std.proofs.lemmas.Option.{same_Some, slice_get-get_or, slice_get-map}

@@ -21,8 +21,9 @@ pub record IsSized (buffer : Buffer) : Type 0 where
   pub bytes : (1 ≤ buffer.bytes) × (buffer.bytes ≤ 4096)
   pub shares : (1 ≤ buffer.shares) × (buffer.shares ≤ 16)
 
--- What the rules rely on: how large the rings are, how many buffers, tokens, lines of pools, threads and credits there are at
--- most, and that the names of tokens are resolved and each is there once. Names and lines are of the program alone.
+-- What the rules rely on: how large the rings are, how many buffers, tokens, lines of pools, threads and credits there
+-- are at most, and that the names of tokens are resolved and each is there once. Names and lines are of the program
+-- alone.
 pub record IsView (view : Program) : Type 0 where
   pub entries : IsRingSize 1024 view.entries
   pub completion_entries : IsRingSize 2048 view.completion_entries

@@ -29,7 +29,8 @@ use Rattle.rc_read.specs.Adds.{copies_of, copy_of, threads_of}
 use Rattle.rc_read.specs.Sheets.{buffer_names, has_file, has_token, is_among, thread_names}
 use Rattle.rc_read.proofs.KeptItems.{none_distinct}
 use Rattle.rc_read.proofs.KeptKinds.{IsKind}
-use Rattle.rc_read.proofs.KeptRows.{HasRoom, IsHead, head_start}
+use Rattle.rc_read.proofs.KeptRings.{IsHead, head_start}
+use Rattle.rc_read.proofs.KeptRows.{HasRoom}
 
 bytes_same : (xs ys : List ℕ) → bytes_eq xs ys ≡ true → xs ≡ ys
 bytes_same xs ys e = (bytes_eq-Decides xs ys).0 e

@@ -1,10 +1,9 @@
 -- What a line says, form by form, where no sentence is true of it.
-use Rattle.std.proofs.Common.{◌≡◌, ℕ, suc, ◌+◌, ◌*◌, ◌^◌, ◌<◌, ◌≤◌, Bool, true, false, cond, ◌&&◌, bytes_eq, nat_le, nat_lt, codes, List, [], ◌∷◌, length, Option, Some, None, is_none, unwrap_or, refl, sym, ap, ◌∙◌, subst, pow-suc, All, arith}
-use Rattle.std.proofs.lemmas.Bool.{and_parts, or_parts, leb-false, leb-true, ltb-false}
+use Rattle.std.proofs.Common.{◌≡◌, ℕ, ◌+◌, ◌<◌, ◌≤◌, true, false, ◌&&◌, bytes_eq, nat_le, nat_lt, codes, List, [], ◌∷◌, length, Option, Some, None, is_none, unwrap_or, refl, sym, ap, ◌∙◌, subst, All, arith}
+use Rattle.std.proofs.lemmas.Bool.{and_parts, or_parts, leb-true, ltb-false}
 use Rattle.rc_lang.specs.declared.lines.Locks.{Locks}
 use Rattle.rc_lang.specs.declared.lines.Operand.{Operand as OperandOf}
 use Rattle.rc_lang.specs.declared.lines.Operand.TheVariants as operand
-use Rattle.rc_lang.specs.declared.program.Head.{Head}
 use Rattle.rc_lang.specs.declared.program.TokenKind.TheVariants as kind
 use Rattle.rc_lang.specs.Kinds.{kinds_in}
 use Rattle.rc_lang.specs.Locks.{is_some_lock}
@@ -12,8 +11,7 @@ use Rattle.rc_lang.specs.Names.{before_bracket, from_bracket, is_name}
 use Rattle.rc_lang.specs.Numbers.{number_of}
 use Rattle.rc_lang.specs.Program.{Thread as ThreadOf}
 use Rattle.rc_lang.specs.Kept.{IsFile, IsItems, IsList}
-use Rattle.rc_lang.specs.Resolved.{AreTaken, DeclaresPool, DeclaresToken, IsOperand, IsResolvedOp, IsResolvedTest, IsRingSize}
-use Rattle.rc_read.specs.declared.says.Rings.{Rings}
+use Rattle.rc_lang.specs.Resolved.{AreTaken, DeclaresPool, DeclaresToken, IsOperand, IsResolvedOp, IsResolvedTest}
 use Rattle.rc_read.specs.declared.says.Says.{Says}
 use Rattle.rc_read.specs.declared.says.Says.TheVariants as says
 use Rattle.rc_read.specs.declared.table.Part.TheVariants.{Fixed, Number, Pool, NewBuffer, NewPool, NewThread, NewThreads, Copies, Items, Flag}
@@ -32,87 +30,13 @@ use Rattle.rc_read.specs.Sentences.{any_double, any_full, any_named_twice, any_u
 use Rattle.rc_read.specs.Sheets.{Draft, Sheet, buffer_names, has_file, has_token, is_among, thread_names}
 use Rattle.rc_read.specs.Spots.{Spot, begins_number, closing_in, in_brackets, matches, opens_bracket, spots_of, spots_of_items}
 use Rattle.rc_read.specs.Table.{parts_of, stand_of, version_of}
-use Rattle.rc_read.specs.Values.{any_lacks, items_in, kinds_named, rounded_up, small_value, start, value_at, values_of}
+use Rattle.rc_read.specs.Values.{any_lacks, items_in, kinds_named, small_value, start, value_at, values_of}
 use Rattle.rc_read.proofs.KeptItems.{AreFine, SayFine, both_fine, items_fine}
 use Rattle.rc_read.proofs.KeptKinds.{AreKinds, IsKind, four_kinds, one_kind, token_kinds}
 use Rattle.rc_read.proofs.KeptLists.{IsLoopOf, NoFlag, header_held, list_alone, loop_held, loop_when_held}
+use Rattle.rc_read.proofs.KeptRings.{AreRings, one_size, two_sizes}
 use Rattle.rc_read.proofs.KeptSpots.{AllNamed, has_flag, is_second, items_after, items_alone, items_behind, items_between, items_second, items_third, named_behind}
 use Rattle.rc_read.proofs.KeptValues.{Fine, made, some_small, within}
-
--- ---- sizes of rings
-
--- a power of two up to the limit
-power : (k : ℕ) → 2 ^ k ≤ 2048 → IsRingSize 2048 (2 ^ k)
-power k h = record { power = (k, refl); within = h }
-
-chosen : (b : Bool) (x y : ℕ) → IsRingSize 2048 x → IsRingSize 2048 y → IsRingSize 2048 (cond b x y)
-chosen true x y a b = a
-chosen false x y a b = b
-
-ring_size : (n : ℕ) → IsRingSize 2048 (rounded_up n)
-ring_size n =
-    chosen (nat_le n 1) 1 _ (power 0 (omega arith))
-    (chosen (nat_le n 2) 2 _ (power 1 (omega arith))
-    (chosen (nat_le n 4) 4 _ (power 2 (omega arith))
-    (chosen (nat_le n 8) 8 _ (power 3 (omega arith))
-    (chosen (nat_le n 16) 16 _ (power 4 (omega arith))
-    (chosen (nat_le n 32) 32 _ (power 5 (omega arith))
-    (chosen (nat_le n 64) 64 _ (power 6 (omega arith))
-    (chosen (nat_le n 128) 128 _ (power 7 (omega arith))
-    (chosen (nat_le n 256) 256 _ (power 8 (omega arith))
-    (chosen (nat_le n 512) 512 _ (power 9 (omega arith))
-    (chosen (nat_le n 1024) 1024 2048 (power 10 (omega arith)) (power 11 (omega arith))))))))))))
-
-few : (b : Bool) (x y : ℕ) → x ≤ 1024 → (b ≡ false → y ≤ 1024) → cond b x y ≤ 1024
-few true x y a h = a
-few false x y a h = h refl
-
-few_entries : (n : ℕ) → n ≤ 1024 → rounded_up n ≤ 1024
-few_entries n le =
-    few (nat_le n 1) 1 _ (omega arith) (λ a.
-    few (nat_le n 2) 2 _ (omega arith) (λ b.
-    few (nat_le n 4) 4 _ (omega arith) (λ c.
-    few (nat_le n 8) 8 _ (omega arith) (λ d.
-    few (nat_le n 16) 16 _ (omega arith) (λ e.
-    few (nat_le n 32) 32 _ (omega arith) (λ f.
-    few (nat_le n 64) 64 _ (omega arith) (λ g.
-    few (nat_le n 128) 128 _ (omega arith) (λ h.
-    few (nat_le n 256) 256 _ (omega arith) (λ i.
-    few (nat_le n 512) 512 _ (omega arith) (λ j.
-    few (nat_le n 1024) 1024 2048 (omega arith) (λ k. let lt : 1024 < n = leb-false n 1024 k in absurd (omega arith))))))))))))
-
--- Rings have the sizes that rings have.
-pub record AreRings (rings : Rings) : Type 0 where
-  pub entries : IsRingSize 1024 rings.entries
-  pub completion_entries : IsRingSize 2048 rings.completion_entries
-  pub room : rings.entries ≤ rings.completion_entries
-  pub left : rings.left ≤ rings.entries
-
--- The head says a version and such rings.
-pub record IsHead (h : Head) : Type 0 where
-  pub version : (1 ≤ h.version) × (h.version ≤ 5)
-  pub rings : AreRings (record { entries = h.entries; completion_entries = h.completion_entries; left = h.left })
-
-submission : (size : ℕ) → size ≤ 1024 → IsRingSize 1024 (rounded_up size)
-submission size le = record { power = (ring_size size).power; within = few_entries size le }
-
-double : (k : ℕ) → 2 * 2 ^ k ≡ 2 ^ (k + 1)
-double k = let n : suc k ≡ k + 1 = omega arith in let p : 2 ^ suc k ≡ 2 ^ k * 2 = pow-suc 2 k in let q : 2 ^ suc k ≡ 2 ^ (k + 1) = ap (λ m. 2 ^ m) n in omega arith
-
-twice : (n : ℕ) → IsRingSize 1024 n → IsRingSize 2048 (2 * n)
-twice n h = record {
-  power = (h.power.0 + 1, ap (λ m. 2 * m) h.power.1 ∙ double h.power.0);
-  within = let le : n ≤ 1024 = h.within in omega arith;
-}
-
-one_size : (size left : ℕ) → size ≤ 1024 → left ≤ rounded_up size → AreRings (record { entries = rounded_up size; completion_entries = 2 * rounded_up size; left = left })
-one_size size left le few = record { entries = submission size le; completion_entries = twice (rounded_up size) (submission size le); room = omega arith; left = few }
-
-two_sizes : (size completion left : ℕ) → size ≤ 1024 → rounded_up size ≤ rounded_up completion → left ≤ rounded_up size → AreRings (record { entries = rounded_up size; completion_entries = rounded_up completion; left = left })
-two_sizes size completion left le room few = record { entries = submission size le; completion_entries = ring_size completion; room = room; left = few }
-
-pub head_start : IsHead (record { version = 1; entries = 1; completion_entries = 2; left = 0 })
-head_start = record { version = (omega arith, omega arith); rings = one_size 0 0 (omega arith) (omega arith) }
 
 -- ---- what is said
 
@@ -151,7 +75,8 @@ module _ (threads : List ThreadOf) (s : Sheet) (d : Draft) (ws : List (List ℕ)
   IsTold st says.Break = st ≡ stand.Inside
   IsTold st says.Close = Unit {0}
 
-  -- What a line says besides its values: the name that it declares, its items, its kinds, and that it isn't in earlier versions.
+  -- What a line says besides its values: the name that it declares, its items, its kinds, and that it isn't in earlier
+  -- versions.
   abbrev pub HasMore : List Value → Row → Type 0
   HasMore vs row.Buffer = IsNewName (buffer_names s.buffers) (second_of ws)
   HasMore vs row.TokenKinds = AreKinds s.buffers (kinds_named vs)

@@ -8,7 +8,7 @@ use Rattle.rc_read.specs.declared.table.Part.TheVariants.{Fixed, Flag, Items, Ki
 use Rattle.rc_read.specs.declared.fixed.Word.{Word}
 use Rattle.rc_read.specs.Adds.{second_of}
 use Rattle.rc_read.specs.Sheets.{is_among, is_variable, names_behind, number_in, with_name}
-use Rattle.rc_read.specs.Spots.{Spot, behind, behind_items, behind_list, behind_one, fits, is_fixed, is_list, matches, spot_of_part, spots_at, spots_of, spots_of_items, spots_of_list}
+use Rattle.rc_read.specs.Spots.{Spot, behind, behind_items, behind_list, behind_one, fits, is_list, matches, spot_of_part, spots_at, spots_of, spots_of_items, spots_of_list}
 
 -- ---- parts
 

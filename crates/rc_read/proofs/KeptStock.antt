@@ -1,5 +1,5 @@
 -- What is kept of what pools have at the start, and what one more line of it does to it.
-use Rattle.std.proofs.Common.{◌≡◌, ℕ, zero, suc, ◌+◌, ◌<◌, ◌≤◌, Bool, true, false, cond, List, [], ◌∷◌, ◌++◌, length, length-append, map, Option, Some, None, is_none, slice_get, refl, sym, ap, ◌∙◌, subst, inl, inr, All, arith, Contains}
+use Rattle.std.proofs.Common.{◌≡◌, ℕ, zero, suc, ◌+◌, ◌<◌, ◌≤◌, true, false, cond, List, [], ◌∷◌, ◌++◌, length, length-append, map, Option, Some, None, is_none, slice_get, refl, sym, ap, ◌∙◌, subst, inl, inr, All, arith, Contains}
 use Rattle.std.specs.Prelude.{IfSome}
 use Rattle.std.proofs.lemmas.Bool.{or_parts}
 use Rattle.std.proofs.lemmas.List.{get_or_append_left, map_push}
@@ -7,11 +7,11 @@ use Rattle.std.proofs.lemmas.List.Elements.{All-nil, All-push, All-weaker}
 use Rattle.rc_lang.specs.declared.program.Share.{Share}
 use Rattle.rc_lang.specs.declared.program.Token.{Token}
 use Rattle.rc_lang.specs.Program.{Items, Program, Stock}
-use Rattle.rc_lang.specs.Kept.{IsEachPoolOnce, IsItems, IsOfPool, IsStock, stock_numbers}
+use Rattle.rc_lang.specs.Kept.{IsEachPoolOnce, IsItems, IsStock, stock_numbers}
 use Rattle.rc_lang.specs.Resolved.{DeclaresPool, DeclaresToken}
 use Rattle.rc_lang.proofs.Lookups.{get_push}
 use Rattle.rc_read.specs.Sheets.{has_unnamed}
-use Rattle.rc_read.proofs.KeptParts.{RiseTo, one_more, rise_more, rise_none, rise_on}
+use Rattle.rc_read.proofs.KeptParts.{RiseTo, rise_more, rise_none, rise_on}
 
 -- ---- a program that declares more
 

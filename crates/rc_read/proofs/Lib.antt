@@ -11,6 +11,7 @@ pub mod KeptLinks
 pub mod KeptLists
 pub mod KeptParts
 pub mod KeptResolved
+pub mod KeptRings
 pub mod KeptRows
 pub mod KeptSheet
 pub mod KeptSpots

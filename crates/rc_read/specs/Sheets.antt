@@ -21,9 +21,10 @@ pub record Arms : Type 0 where
   pub other : Bool
   pub none : Bool
 
--- A thread so far: its name, how many copies its header declares if it says so, the line of the header and what it holds, its lists of items, its variables in the
--- order of their first uses, the blocks that are open in it (the innermost last), its lines, where the lines that a
--- jump starts from lead to, the arms of the open peek, and the variable of its first `when`.
+-- A thread so far: its name, how many copies its header declares if it says so, the line of the header and what it
+-- holds, its lists of items, its variables in the order of their first uses, the blocks that are open in it (the
+-- innermost last), its lines, where the lines that a jump starts from lead to, the arms of the open peek, and the
+-- variable of its first `when`.
 pub record Draft : Type 0 where
   pub name : List ℕ
   pub copies : Option ℕ

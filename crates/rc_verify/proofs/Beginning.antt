@@ -1,5 +1,5 @@
 -- Where a walk begins, and what it answers.
-use Rattle.std.proofs.Common.{◌≡◌, ℕ, zero, suc, Bool, ◌<◌, ◌≤◌, List, [], ◌∷◌, length, map, take_all, Option, Some, None, get_or, refl, sym, ap, subst, ◌∙◌, arith, slice_get}
+use Rattle.std.proofs.Common.{◌≡◌, ℕ, zero, suc, Bool, ◌<◌, List, [], ◌∷◌, length, map, Option, Some, None, get_or, refl, sym, ap, subst, ◌∙◌, arith, slice_get}
 use Rattle.std.proofs.lemmas.Option.{slice_get-get_or}
 use Rattle.rc_lang.specs.declared.lines.Line.{Line}
 use Rattle.rc_lang.specs.declared.program.Thread.{Thread as ThreadPart}
@@ -11,7 +11,7 @@ use Rattle.rc_lang.specs.Kept.{IsProgram, IsThread}
 use Rattle.rc_lang.specs.declared.view.View.{View}
 use Rattle.rc_lang.specs.Views.{seen, view_of}
 use Rattle.rc_lang.proofs.Views.{is_thread, is_view, sees}
-use Rattle.rc_rules.specs.Labellings.{HasLabels, IsGood, IsRefusedAt}
+use Rattle.rc_rules.specs.Labellings.{IsRefusedAt}
 use Rattle.rc_rules.specs.Sides.{Sides, on}
 use Rattle.rc_rules.specs.States.{State, BeginsAs, IsStart, label_of, sides_of}
 use Rattle.rc_rules.proofs.Headers.{thread_at}

@@ -11,8 +11,7 @@ use Rattle.std.proofs.Math.Nat.{suc-mul}
 use Rattle.std.proofs.Math.Numerals.{add-one}
 use Rattle.std.proofs.lemmas.Nat.{mul-le}
 use Rattle.rc_lang.specs.declared.program.Stock.{Stock as StockPart}
-use Rattle.rc_lang.specs.declared.program.Thread.{Thread as ThreadPart}
-use Rattle.rc_lang.specs.Parts.{view_items, view_stock, view_thread}
+use Rattle.rc_lang.specs.Parts.{view_items, view_stock}
 use Rattle.rc_lang.specs.Program.{Program, Items, Stock, Thread, further_copies, line_end, shares_at}
 use Rattle.rc_lang.specs.Kept.{IsItems, IsProgram, IsStock}
 use Rattle.rc_lang.proofs.Copies.{alone, copy_at}
@@ -20,11 +19,10 @@ use Rattle.rc_split.specs.Bags.{Part, ShareOf, TokenOf, Credit, bag_of, begun, p
 use Rattle.rc_split.specs.Holdings.{Gains, Holding, Holds, bag}
 use Rattle.rc_split.proofs.Named.{all_at, no_share, share_named, token_named}
 use Rattle.rc_split.proofs.Turns.{itself, shares_more_le, tokens_more_le}
-use Rattle.rc_rules.specs.Labellings.{given_to, given_to_pools, headers_bag, shares_of, tokens_of, credits_of, header_asks, header_premises, is_empty, may_hold, pool_asks}
+use Rattle.rc_rules.specs.Labellings.{given_to, given_to_pools, headers_bag, shares_of, tokens_of, credits_of, header_asks, header_premises, is_empty, may_hold}
 use Rattle.rc_rules.specs.declared.cause.Cause.{Cause}
 use Rattle.rc_rules.specs.Premises.{Meets, FailsFirst, Tests}
 use Rattle.rc_rules.specs.Rules.{limit}
-use Rattle.rc_rules.proofs.Headers.{thread_at}
 use Rattle.rc_verify.proofs.Strongest.{take_suc_at}
 use Rattle.rc_verify.specs.Headers.{JudgesItems, share_fits, times, token_fits}
 

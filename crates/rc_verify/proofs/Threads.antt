@@ -1,5 +1,5 @@
 -- The threads are judged in turn.
-use Rattle.std.proofs.Common.{◌≡◌, ℕ, zero, suc, ◌+◌, ◌<◌, ◌≤◌, Bool, true, ◌||◌, List, [], length, take, drop, map, Option, Some, is_none, refl, sym, ap, ◌∙◌, subst, inl, inr, get_or, ◌⊎◌, arith}
+use Rattle.std.proofs.Common.{◌≡◌, ℕ, zero, suc, ◌+◌, ◌<◌, ◌≤◌, Bool, true, ◌||◌, List, [], length, drop, map, Option, Some, is_none, refl, sym, ap, ◌∙◌, subst, inl, inr, get_or, ◌⊎◌, arith}
 use Rattle.std.specs.Prelude.{slice_get, slice_index_or}
 use Rattle.std.proofs.lemmas.Bool.{cases_lt}
 use Rattle.std.proofs.lemmas.List.{length-map, take_all}

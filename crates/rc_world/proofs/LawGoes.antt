@@ -12,7 +12,7 @@ use Rattle.rc_lang.specs.declared.lines.Test.{Test}
 use Rattle.rc_lang.specs.declared.lines.Test.TheVariants.{Compare, ReadyZero, SpaceAtLeast, Take, Any}
 use Rattle.rc_lang.specs.declared.request.Kind.TheVariants.{Fsync, Read, Write}
 use Rattle.rc_lang.specs.declared.request.Request.{Request}
-use Rattle.rc_lang.specs.Program.{Items, Program, bytes_at, items_at, line_at, lines_of, lists_of, stmt_of, Rows, rows_of}
+use Rattle.rc_lang.specs.Program.{Items, Program, bytes_at, line_at, lines_of, Rows, rows_of}
 use Rattle.rc_lang.specs.Resolved.{IsResolvedOp}
 use Rattle.rc_lang.specs.Requests.{may_complete}
 use Rattle.rc_lang.proofs.Rests.{may_rest}

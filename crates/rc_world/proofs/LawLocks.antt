@@ -17,7 +17,7 @@ use Rattle.rc_lang.specs.declared.lines.Test.{Test}
 use Rattle.rc_lang.specs.declared.lines.Test.TheVariants.{Compare, ReadyZero, SpaceAtLeast, Take, Any}
 use Rattle.rc_lang.specs.Locks.{with_locks, without_locks}
 use Rattle.rc_lang.specs.Nesting.{blocks_at, locks_in}
-use Rattle.rc_lang.specs.Program.{Items, Program, end_at, ends_in, items_at, lines_of, lists_of, stmt_at, stmt_of, rows_of}
+use Rattle.rc_lang.specs.Program.{Items, Program, end_at, ends_in, lines_of, stmt_at, stmt_of, rows_of}
 use Rattle.rc_lang.specs.Kept.{IsProgram}
 use Rattle.rc_lang.specs.Resolved.{HasArms}
 use Rattle.rc_lang.proofs.Along.{locks_next, locks_pushed, same_locks}
@@ -41,7 +41,7 @@ use Rattle.rc_world.proofs.LawPlaces.{arm_found, arms, op_place, place_passes, p
 use Rattle.rc_world.proofs.LawRuns.{IsSound, after_step, start_of}
 use Rattle.rc_world.proofs.LawSteps.{Completed, Stepped, completed, stepped, stands_written}
 use Rattle.rc_world.proofs.Lists.{get_set}
-use Rattle.rc_world.proofs.RingSteps.{rings_same, small_stmt, small_read}
+use Rattle.rc_world.proofs.RingSteps.{rings_same, small_read}
 use Rattle.rc_lang.specs.Rows.{read_op, read_stmt}
 
 -- the locks that are open at a place of a thread, and those that a thread holds

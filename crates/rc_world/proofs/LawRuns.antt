@@ -2,7 +2,7 @@
 use Rattle.std.proofs.Common.{◌≡◌, ℕ, zero, suc, false, List, [], ◌∷◌, length, map, replicate, Some, refl, sym, ap, ◌∙◌, subst, slice_get, slice_set, inl, inr, ℤ, pos}
 use Rattle.std.proofs.lemmas.List.{length-map, length-set}
 use Rattle.std.proofs.lemmas.Option.{same_Some}
-use Rattle.rc_lang.specs.Program.{Program, Thread, lines_of, stmt_of}
+use Rattle.rc_lang.specs.Program.{Program, Thread, lines_of}
 use Rattle.rc_lang.specs.Kept.{IsProgram}
 use Rattle.rc_lang.proofs.Rests.{IsRest}
 use Rattle.rc_world.specs.declared.event.Event.{Event}
@@ -14,7 +14,7 @@ use Rattle.rc_world.specs.Runs.{IsRun, IsStep}
 use Rattle.rc_world.proofs.Keeping.{memory_given}
 use Rattle.rc_world.proofs.LawFaultless.{calm_in}
 use Rattle.rc_world.proofs.Lists.{get_set}
-use Rattle.rc_world.proofs.RingSteps.{rings_same, small_stmt, small_read}
+use Rattle.rc_world.proofs.RingSteps.{rings_same, small_read}
 use Rattle.rc_world.proofs.Starting.{kept_start}
 use Rattle.rc_world.proofs.LawPlaces.{acts_open, rests_at_start, rests_from}
 use Rattle.rc_world.proofs.LawSteps.{Completed, Stepped, completed, stepped, stands_written}

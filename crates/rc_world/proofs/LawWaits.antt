@@ -4,7 +4,7 @@ use Rattle.rc_lang.specs.declared.lines.Locks.{Locks}
 use Rattle.rc_lang.specs.declared.lines.Stmt.TheVariants.{Lock}
 use Rattle.rc_lang.specs.Locks.{no_lock}
 use Rattle.rc_lang.specs.Nesting.{blocks_at, breaks_order, locks_in}
-use Rattle.rc_lang.specs.Program.{Program, Thread, lines_in, lines_of, stmt_at, stmt_of}
+use Rattle.rc_lang.specs.Program.{Program, Thread, lines_in, lines_of, stmt_at}
 use Rattle.rc_lang.specs.Kept.{IsProgram}
 use Rattle.rc_lang.proofs.Fitting.{no_cq_in_cq, none_in_sq}
 use Rattle.rc_lang.proofs.Lookups.{nested_here}

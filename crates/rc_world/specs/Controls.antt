@@ -1,5 +1,5 @@
 -- Where each thread is, and what a step of it does there, given what the rings and buffers answer.
-use Rattle.std.specs.Prelude.{ℕ, zero, suc, ◌+◌, ◌%◌, Bool, true, false, ◌&&◌, ◌||◌, if◌then◌else◌, List, [], length, map, replicate, Option, Some, None, nat_eq, option_map, position, unwrap_or, slice_get, slice_index_or, slice_range, slice_set, ℤ, pos, negsuc, ◌+ℤ◌, ◌-ℤ◌, int_le}
+use Rattle.std.specs.Prelude.{ℕ, zero, suc, ◌+◌, ◌%◌, Bool, true, false, ◌&&◌, ◌||◌, if◌then◌else◌, List, [], length, map, replicate, Option, Some, None, nat_eq, option_map, position, unwrap_or, slice_get, slice_range, slice_set, ℤ, pos, negsuc, ◌+ℤ◌, ◌-ℤ◌, int_le}
 use Rattle.std.specs.Int.{cast_unsigned, int_wrap, w64}
 use Rattle.std.specs.Ordering.{int_eq}
 use Rattle.rc_lang.specs.Comparisons.{compares}

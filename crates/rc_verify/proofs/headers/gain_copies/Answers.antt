@@ -1,7 +1,6 @@
-use Rattle.std.proofs.Common.{◌≡◌, ◌+◌, ◌-◌, ◌*◌, ◌≤◌, ◌∙◌, arith, subst, sym, ap}
-use Rattle.std.proofs.Math.Nat.{suc-mul}
+use Rattle.std.proofs.Common.{◌∙◌, arith, subst, sym}
 use Rattle.rc_lang.specs.Parts.{view_items}
-use Rattle.rc_split.specs.Bags.{Part, TokenOf, bag_of}
+use Rattle.rc_split.specs.Bags.{TokenOf, bag_of}
 use Rattle.rc_split.specs.Holdings.{AreDeclared, bag}
 use Rattle.rc_verify.proofs.Sums.{none_left, one_less}
 use Rattle.rc_verify.proofs.headers.gain_copies.Goals as goal

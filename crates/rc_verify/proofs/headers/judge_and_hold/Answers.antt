@@ -1,5 +1,5 @@
 use Rattle.std.proofs.Common.{refl, subst, sym, arith, rules}
-use Rattle.rc_split.specs.Bags.{Part, TokenOf, bag_of, plus}
+use Rattle.rc_split.specs.Bags.{TokenOf, bag_of, plus}
 use Rattle.rc_split.specs.Holdings.{AreDeclared, bag}
 use Rattle.rc_lang.specs.Parts.{view_items}
 use Rattle.rc_lang.proofs.Views.{own_view}

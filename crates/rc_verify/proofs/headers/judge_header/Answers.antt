@@ -1,4 +1,4 @@
-use Rattle.std.proofs.Common.{◌≡◌, ◌+◌, ◌∙◌, sym, arith}
+use Rattle.std.proofs.Common.{◌∙◌, sym}
 use Rattle.rc_lang.specs.Parts.{view_thread}
 use Rattle.rc_lang.specs.Program.{line_end}
 use Rattle.rc_rules.specs.Labellings.{given_to}

@@ -1,4 +1,4 @@
-use Rattle.std.proofs.Common.{◌≡◌, ◌<◌, arith, length, subst, sym}
+use Rattle.std.proofs.Common.{◌<◌, arith, length, subst, sym}
 use Rattle.std.proofs.lemmas.Option.{slice_get_within}
 use Rattle.rc_split.specs.Bags.{IsWithin}
 use Rattle.rc_split.specs.Holdings.{Holds}
