@@ -36,7 +36,8 @@ pub struct Missing {
     pub on_other: bool,
 }
 
-/// What the line of a pool or the header of a thread asks for that is refused for the cause, and what the lines up to it give.
+/// What the line of a pool or the header of a thread asks for that is refused for the cause, and what the lines up to it
+/// give.
 pub fn header_need(
     alloc: Global,
     program: &Program,

@@ -12,8 +12,8 @@ fn shares_in(thread: &Thread, buffer: usize) -> u32 {
     shares_of(&thread.items.shares, buffer)
 }
 
-/// What all pools and headers together have of a buffer's shares, and the first thread of another line that begins with some, with how
-/// many.
+/// What all pools and headers together have of a buffer's shares, and the first thread of another line that begins with
+/// some, with how many.
 #[derive(Clone, Copy)]
 struct Begun<'a> {
     given: u32,

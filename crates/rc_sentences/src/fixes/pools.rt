@@ -165,7 +165,8 @@ fn put_other_pool(
     put_piece(text, b".")
 }
 
-/// Adds that a part is to be taken from the pool without a name, where it begins with so much of it, and says whether it does.
+/// Adds that a part is to be taken from the pool without a name, where it begins with so much of it, and says whether it
+/// does.
 pub fn put_begun(text: &mut Vec<u8>, refused: Refused, part: Part) -> Result<bool, AllocError> {
     if begun_in(refused.program(), None, part) < count_of(part) {
         return Ok(false);
