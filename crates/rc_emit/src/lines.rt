@@ -24,12 +24,12 @@ pub fn put_line(text: &mut Vec<u8>, place: Place<'_>, pieces: &[&[u8]]) -> Resul
 pub fn put_event(text: &mut Vec<u8>, place: Place<'_>, pieces: &[&[u8]]) -> Result<(), AllocError> {
     let number = place.decimal(u64::from(place.number))?;
     let name = place.thread.declared_name();
-    let (call, copy): (&[u8], &[u8]) = match place.thread.copy {
-        None => (b"EVENT(\"", b" "),
-        Some(_) => (b"COPY_EVENT(\"", b"[%u] "),
-    };
     put_indentation(text, place.depth)?;
-    put_pieces(text, &[call, name, copy, &number, b" "])?;
+    match place.thread.copy {
+        None => put_pieces(text, &[b"EVENT(\"", name, b" "])?,
+        Some(_) => put_pieces(text, &[b"COPY_EVENT(\"", name, b"[%u] "])?,
+    }
+    put_pieces(text, &[&number, b" "])?;
     put_pieces(text, pieces)?;
     put_piece(text, b");\n")
 }

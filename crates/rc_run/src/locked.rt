@@ -41,6 +41,7 @@ impl RunConfig for Brand {
       buffers = [];
       tokens = [];
       pools = [];
+      stock = [];
       threads = [];
     } };
 

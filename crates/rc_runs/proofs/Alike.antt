@@ -59,6 +59,17 @@ module _ (kept : List Bool) (w : World) (ts : List Standing) (threads : Pairwise
       ap (λ items. may_put w i pool && overfills w.program (all_pooled w.program w.controls.pools) items) (read (slice_get ts i) ∙ sym (read (slice_get w.controls.threads i)))
   double_like i _ = refl
 
+  -- what a statement moves doesn't hang on variables
+  stmt_moves_like : (i : ℕ) (s : Stmt) → stmt_moves (with_threads w ts) i s ≡ stmt_moves w i s
+  stmt_moves_like i (If (Take pool k)) =
+      let read = λ (o : Option Standing). list_alone w.program program_made i (variables_in o) k in
+      ap (includes w.program (pool_of w.controls.pools pool)) (read (slice_get ts i) ∙ sym (read (slice_get w.controls.threads i)))
+  stmt_moves_like i _ = refl
+
+  pub line_moves_like : (i : ℕ) (o : Option Line) → line_moves (with_threads w ts) i o ≡ line_moves w i o
+  line_moves_like i None = refl
+  line_moves_like i (Some l) = stmt_moves_like i l.stmt
+
   has_like : (kind : FaultKind) (i : ℕ) (s : Stmt) → has_fault (with_threads w ts) kind i s ≡ has_fault w kind i s
   has_like WriteOfPending i s = refl
   has_like ReadOfFilling i s = refl

@@ -24,7 +24,7 @@ use Rattle.rc_lang.specs.Kept.{IsProgram}
 use Rattle.rc_world.specs.Trace.{all_ended_from, has_ended}
 use Rattle.rc_runs.specs.Closing.{AllLike, AreAlike, AreLikeStandings, Follows, GoesOnly, HasWorld, IsCalm, IsGrown, IsLed, IsLedAt, IsLike, IsQuiet, IsQuietAt, IsThreadLed, Leads, Pairwise, StillOnward, is_asked, line_follows, still, with_threads, IfBoth}
 use Rattle.rc_runs.specs.Stuck.{GoesBy, IsOnward, IsStill, counts, is_any, is_any_at, line_moves, moves}
-use Rattle.rc_runs.proofs.Alike.{AreStepsAlike, fault_same, like_on, like_same, line_like, steps_like}
+use Rattle.rc_runs.proofs.Alike.{AreStepsAlike, fault_same, like_on, like_same, line_like, line_moves_like, steps_like}
 use Rattle.rc_runs.proofs.Still.{still_after}
 use Rattle.rc_lang.specs.Rows.{read_line, read_stmt}
 use Rattle.rc_lang.specs.declared.lines.Locks.{Locks}
@@ -103,7 +103,7 @@ module _ (kept : List Bool) (ws : List World) (w : World) (quiet : IsQuiet kept 
       let other : GoesBy w (Thread i take) too.world = record { no_fault = quiet.no_fault; counts = counted; enabled = enabled; step = (too.event, stepped) } in
       let led = quiet.leads (Thread i take) too.world other in
       let goes_on : has_ended (next_of too.world.program too.world.controls i) ≡ false = sym (ap (λ b. b || has_ended (next_of too.world.program too.world.controls i)) follows.0) ∙ led.0 in
-      let still_line : line_moves (with_threads w ts) i (next_line w.program (record w.controls { threads = ts }) i) ≡ false = ap (λ (o : Option Line). line_moves w i o) line ∙ follows.0 in
+      let still_line : line_moves (with_threads w ts) i (next_line w.program (record w.controls { threads = ts }) i) ≡ false = line_moves_like kept w ts threads quiet.made i (next_line w.program (record w.controls { threads = ts }) i) ∙ ap (line_moves w i) line ∙ follows.0 in
       let unmoved : moves (with_threads w ts) (Thread i take) next ≡ false = ap (λ b. b || has_ended (next_of next.program next.controls i)) still_line ∙ ended_like kept next too.world i too.like ∙ goes_on in
       (unmoved, (led.1.0, led.1.1, led.1.2, like_on kept next too.world led.1.1 too.like led.1.3))
     where

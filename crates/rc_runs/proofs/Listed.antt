@@ -1,5 +1,5 @@
 -- What is listed is what is enabled.
-use Rattle.std.proofs.Common.{◌≡◌, ℕ, zero, suc, ◌<◌, ◌≤◌, ◌⊎◌, inl, inr, [], length, get_or, List, Bool, true, false, cond, ◌&&◌, ◌||◌, eqb, leb, Option, Some, None, ℤ, pos, negsuc, refl, sym, ap, subst, ◌∙◌, arith}
+use Rattle.std.proofs.Common.{◌≡◌, ℕ, zero, suc, ◌+◌, ◌<◌, ◌≤◌, ◌⊎◌, inl, inr, [], ◌++◌, length, get_or, List, append_assoc, Bool, true, false, cond, ◌&&◌, ◌||◌, eqb, leb, Option, Some, None, ℤ, pos, negsuc, refl, sym, ap, subst, ◌∙◌, arith}
 use Rattle.std.proofs.lemmas.Bool.{eq-eqb, eqb-true, ne_eqb}
 use Rattle.std.proofs.lemmas.Bool.Decides.{Decides-int_eq, eqb_tells, leb_tells}
 use Rattle.std.proofs.lemmas.List.Folds.{list_any-append}
@@ -31,6 +31,17 @@ use Rattle.rc_runs.specs.declared.choices.Choice.TheVariants.{Complete, Step, Ta
 use Rattle.rc_runs.specs.Choices.{choice_by, choice_up_to, choices_below, choices_in, completion_choice, is_listed, is_place, most_answer, pending_choice, stands_for, thread_choice}
 use Rattle.rc_runs.specs.Laws.{AreEnabled, HasPlainAnswer, IsCountIfAny, ListedIsEnabled}
 use Rattle.rc_world.proofs.LawSteps.{past_lines}
+
+-- ---- one place more
+
+pub one_more : (n : ℕ) (f : ℕ → Option Choice) (o : Option Choice) (old before after : List Choice) → before ≡ old ++ choices_below n f → o ≡ f n → after ≡ before ++ option_to_list o → after ≡ old ++ choices_below (n + 1) f
+one_more n f o old before after h e a =
+    let next : suc n ≡ n + 1 = omega arith in
+    a
+    ∙ ap (λ xs. xs ++ option_to_list o) h
+    ∙ ap (λ p. (old ++ choices_below n f) ++ option_to_list p) e
+    ∙ append_assoc old (choices_below n f) (option_to_list (f n))
+    ∙ ap (λ k. old ++ choices_below k f) next
 
 -- ---- one of several
 
