@@ -8,6 +8,7 @@ use Rattle.rc_lang.specs.declared.lines.Op.{Op}
 use Rattle.rc_lang.specs.declared.lines.Op.TheVariants.{Set, Assign, Add, Subtract, Load, Store, Fill, Print, GetSqe, PrepRead, PrepWrite, PrepFsync, PrepNop, PrepOther, SetData64, Submit, SubmitAndWait, CqeGetData64, CqeSeen}
 use Rattle.rc_lang.specs.declared.lines.Stmt.{Stmt}
 use Rattle.rc_lang.specs.declared.lines.Stmt.TheVariants.{Do, Put, Lock, EndLock, If, Else, EndIf, Peek, Case, Other, Nothing, EndArm, EndPeek, Loop, EndLoop, Break}
+use Rattle.rc_lang.specs.declared.lines.Test.TheVariants.{Take}
 use Rattle.rc_lang.specs.Program.{line_at}
 use Rattle.rc_lang.specs.Kept.{IsProgram}
 use Rattle.rc_world.specs.declared.controls.Answer.{Answer}
@@ -28,7 +29,7 @@ use Rattle.rc_runs.specs.Stuck.{line_moves, op_moves, stmt_moves}
 use Rattle.rc_runs.proofs.Still.{step_is}
 use Rattle.rc_runs.proofs.AlikeMoves.{AreMovesAlike, acts_like, pairs_many, pairs_set}
 use Rattle.rc_lang.proofs.Reading.{line_alone, list_alone}
-use Rattle.rc_split.specs.Pools.{all_pooled, overfills}
+use Rattle.rc_split.specs.Pools.{all_pooled, includes, overfills, pool_of}
 
 -- ---- the world
 

@@ -1,10 +1,10 @@
 -- What is listed is what is enabled.
-use Rattle.std.proofs.Common.{◌≡◌, ℕ, zero, suc, ◌+◌, ◌<◌, ◌≤◌, ◌⊎◌, inl, inr, [], ◌++◌, length, get_or, List, append_assoc, Bool, true, false, cond, ◌&&◌, ◌||◌, eqb, leb, Option, Some, None, ℤ, pos, negsuc, refl, sym, ap, subst, ◌∙◌, arith}
+use Rattle.std.proofs.Common.{◌≡◌, ℕ, zero, suc, ◌+◌, ◌<◌, ◌≤◌, ◌⊎◌, inl, inr, ◌++◌, length, get_or, List, append_assoc, Bool, true, false, cond, ◌&&◌, ◌||◌, eqb, leb, Option, Some, None, ℤ, pos, negsuc, refl, sym, ap, subst, ◌∙◌, arith}
 use Rattle.std.proofs.lemmas.Bool.{eq-eqb, eqb-true, ne_eqb}
 use Rattle.std.proofs.lemmas.Bool.Decides.{Decides-int_eq, eqb_tells, leb_tells}
 use Rattle.std.proofs.lemmas.List.Folds.{list_any-append}
 use Rattle.std.proofs.lemmas.List.Quantifiers.{position-Some}
-use Rattle.std.proofs.lemmas.Option.{slice_get-get_or, slice_get_cases, slice_get_past}
+use Rattle.std.proofs.lemmas.Option.{slice_get-get_or, slice_get_cases}
 use Rattle.std.specs.Ordering.{int_eq}
 use Rattle.std.specs.Prelude.{option_to_list, slice_get}
 use Rattle.std.specs.Bool.{Decides}
@@ -27,7 +27,7 @@ use Rattle.rc_world.specs.Faults.{has_data}
 use Rattle.rc_world.specs.Items.{is_enabled, is_ready, kernel_may, next_by, next_of, pending_at, pending_place, takes}
 use Rattle.rc_world.specs.Machine.{Pending, World, count_in, prepared_nop}
 use Rattle.rc_runs.specs.declared.choices.Choice.{Choice}
-use Rattle.rc_runs.specs.declared.choices.Choice.TheVariants.{Complete, Step, Take}
+use Rattle.rc_runs.specs.declared.choices.Choice.TheVariants.{Complete}
 use Rattle.rc_runs.specs.Choices.{choice_by, choice_up_to, choices_below, choices_in, completion_choice, is_listed, is_place, most_answer, pending_choice, stands_for, thread_choice}
 use Rattle.rc_runs.specs.Laws.{AreEnabled, HasPlainAnswer, IsCountIfAny, ListedIsEnabled}
 use Rattle.rc_world.proofs.LawSteps.{past_lines}

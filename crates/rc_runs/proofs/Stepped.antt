@@ -1,5 +1,5 @@
 -- What is written of a run.
-use Rattle.std.proofs.Common.{◌≡◌, ℕ, List, [], ◌++◌, Bool, true, false, Option, Result, Ok, Err, add-zero, ap, refl, subst, sym, ◌∙◌}
+use Rattle.std.proofs.Common.{◌≡◌, ℕ, List, [], ◌++◌, Option, Result, Ok, Err, add-zero, ap, refl, subst, sym, ◌∙◌}
 use Rattle.std.specs.Prelude.{IfOk, IsErrAnd}
 use Rattle.rc_lang.specs.Program.{Program}
 use Rattle.rc_read.specs.Answer.{answer_of}

@@ -2,6 +2,7 @@
 
 ghost use Rattle.std.specs.Prelude.{◌≡◌, ◌&&◌, false, slice_index_or};
 ghost use Rattle.rc_lang.specs.Program.{items_at, lists_of};
+ghost use Rattle.rc_lang.specs.declared.lines.Stmt.TheVariants as stmts;
 ghost use Rattle.rc_lang.specs.Kept.{IsProgram};
 ghost use Rattle.rc_runs.specs.Stuck as spec;
 ghost use Rattle.rc_runs.specs.Closing as closing;
@@ -32,7 +33,16 @@ fn stmt_moves(world: &World<'_>, thread: u32, stmt: Stmt) -> bool
     match stmt {
         Stmt::Do(op) => op_moves(world, op),
         Stmt::Put(_, _) => true,
-        Stmt::If(Test::Take(pool, k)) => may_take(world, thread, pool, k),
+        Stmt::If(test) => test_moves(world, thread, test),
+        _ => false,
+    }
+}
+
+fn test_moves(world: &World<'_>, thread: u32, test: Test) -> bool
+    ensures { result ≡ false → spec.stmt_moves world.now thread (stmts.If test) ≡ false }
+{
+    match test {
+        Test::Take(pool, k) => may_take(world, thread, pool, k),
         _ => false,
     }
 }
