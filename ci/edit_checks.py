@@ -23,7 +23,7 @@ ERROR = re.compile(r"^(?:\./)?(\S+?):\d+:\d+: error: (?:(`[^`]*`): )?(.*)$", re.
 UNREAD = re.compile(r"is not in scope|has no field|is no name|operand is missing|expected the end|cannot continue")
 # The same of a proof that names what an edit took away, or that rests on one that isn't there.
 RESTS = re.compile(r"is not in scope|has no field|has no `|was not admitted")
-PROVED = re.compile(r"proved(?:, may \w+)*$")
+PROVED = re.compile(r"proved(?: where its callers give what it asks)?(?:, may \w+)*$")
 # The parts of the reason why there is no proof.
 OPEN = re.compile(r"`search` did not prove `")
 CALLS = re.compile(r"it calls (.+), which (?:is|are) not proved$")
